@@ -1,0 +1,133 @@
+-- Laws of `total`, exact and modulo 6.
+use mathlib.Core.Path.{_≡_, refl, sym, ap, ap₂, _∙_}
+use mathlib.Core.Logic.{inl, inr}
+use Prim.Native.Nat.{ℕ, zero, suc, _+_, _*_, _/_, _%_, _<_, _≤_}
+use native.Mathlib.Numerals.{add-one}
+use native.Mathlib.Nat.{add-suc, add-assoc, zero-mul, suc-mul, add-mod, add-zero, zero-add, mul-zero, mul-add, mul-le-mul, mod-add-div, mul-left-comm, add-mul-mod-self-left, not-suc-le-zero}
+use native.Mathlib.Omega.{arith}
+use Rattle.std.proofs.shelf.Tests.{cases-eq}
+use Rattle.digits.specs.Sums.{total, product}
+
+pub total-cong : (n : ℕ) (f g : ℕ → ℕ) → ((i : ℕ) → i < n → f i ≡ g i) → total n f ≡ total n g
+unfolding total
+total-cong zero f g h = refl
+total-cong (suc n) f g h = ap₂ (λ a b. a + b) (total-cong n f g (λ i l. h i (omega arith))) (h n (omega arith))
+
+-- equal modulo 6 at each place
+pub total-mod : (n : ℕ) (f g : ℕ → ℕ) → ((i : ℕ) → i < n → f i % 6 ≡ g i % 6) → total n f % 6 ≡ total n g % 6
+unfolding total
+total-mod zero f g h = refl
+total-mod (suc n) f g h =
+    add-mod (total n f) (f n) 6
+    ∙ ap₂ (λ a b. (a + b) % 6) (total-mod n f g (λ i l. h i (omega arith))) (h n (omega arith))
+    ∙ sym (add-mod (total n g) (g n) 6)
+
+pub total-zero : (n : ℕ) → total n (λ i. 0) ≡ 0
+unfolding total
+total-zero zero = refl
+total-zero (suc n) = ap (λ a. a + 0) (total-zero n)
+
+pub total-add : (n : ℕ) (f g : ℕ → ℕ) → total n (λ i. f i + g i) ≡ total n f + total n g
+unfolding total
+total-add zero f g = refl
+total-add (suc n) f g = let h = total-add n f g in omega arith
+
+pub total-scale : (n c : ℕ) (f : ℕ → ℕ) → total n (λ i. c * f i) ≡ c * total n f
+unfolding total
+total-scale zero c f = sym (mul-zero c)
+total-scale (suc n) c f = ap (λ a. a + c * f n) (total-scale n c f) ∙ sym (mul-add c (total n f) (f n))
+
+pub total-swap : (n m : ℕ) (f : ℕ → ℕ → ℕ) → total n (λ i. total m (λ j. f i j)) ≡ total m (λ j. total n (λ i. f i j))
+unfolding total
+total-swap zero m f = sym (total-zero m)
+total-swap (suc n) m f =
+    ap (λ a. a + total m (λ j. f n j)) (total-swap n m f)
+    ∙ sym (total-add m (λ j. total n (λ i. f i j)) (λ j. f n j))
+
+-- a product modulo 6 with one side reduced
+pub mul-mod : (a b : ℕ) → a * (b % 6) % 6 ≡ a * b % 6
+mul-mod a b =
+    sym (ap (λ x. a * x % 6) (sym (mod-add-div b 6))
+    ∙ ap (λ x. x % 6) (mul-add a (b % 6) (6 * (b / 6)) ∙ ap (λ x. a * (b % 6) + x) (mul-left-comm a 6 (b / 6)))
+    ∙ add-mul-mod-self-left (a * (b % 6)) 6 (a * (b / 6)))
+
+pub mul-same : (a b c : ℕ) → b % 6 ≡ c % 6 → a * b % 6 ≡ a * c % 6
+mul-same a b c h = sym (mul-mod a b) ∙ ap (λ x. a * x % 6) h ∙ mul-mod a c
+
+pub add-same : (a b c d : ℕ) → a % 6 ≡ c % 6 → b % 6 ≡ d % 6 → (a + b) % 6 ≡ (c + d) % 6
+add-same a b c d h k = add-mod a b 6 ∙ ap₂ (λ x y. (x + y) % 6) h k ∙ sym (add-mod c d 6)
+
+pub total-nil : (n : ℕ) (f : ℕ → ℕ) → ((i : ℕ) → i < n → f i % 6 ≡ 0) → total n f % 6 ≡ 0
+total-nil n f h = total-mod n f (λ i. 0) (λ i l. h i l) ∙ ap (λ x. x % 6) (total-zero n)
+
+-- a sum of which one term is left
+pub total-one : (n t : ℕ) (f : ℕ → ℕ) → t < n → ((i : ℕ) → i < n → (i ≡ t → ⊥) → f i % 6 ≡ 0) → total n f % 6 ≡ f t % 6
+unfolding total
+total-one zero t f l h = absurd (not-suc-le-zero l)
+total-one (suc n) t f l h =
+    elim (cases-eq t n) [
+      | inl e ↦ add-same (total n f) (f n) 0 (f t) (total-nil n f (λ i b. h i (omega arith) (omega arith))) (ap (λ x. f x % 6) (sym e)) ∙ ap (λ x. x % 6) (zero-add (f t))
+      | inr e ↦ add-same (total n f) (f n) (f t) 0 (total-one n t f (omega arith) (λ i b k. h i (omega arith) k)) (h n (omega arith) (omega arith)) ∙ ap (λ x. x % 6) (add-zero (f t))
+    ]
+
+-- no term: the start of a loop that sums
+pub total-start : (f : ℕ → ℕ) → total 0 f ≡ 0
+unfolding total
+total-start f = refl
+
+-- one term more: the step of a loop that sums
+pub total-more : (n : ℕ) (f : ℕ → ℕ) → total (n + 1) f ≡ total n f + f n
+unfolding total
+total-more n f = rw add-one
+
+-- a sum over two stretches, one behind the other
+pub total-append : (m n : ℕ) (f : ℕ → ℕ) → total (m + n) f ≡ total m f + total n (λ i. f (m + i))
+unfolding total
+total-append m zero f = ap (λ k. total k f) (add-zero m) ∙ sym (add-zero (total m f))
+total-append m (suc n) f =
+    ap (λ k. total k f) (add-suc m n)
+    ∙ ap (λ a. a + f (m + n)) (total-append m n f)
+    ∙ add-assoc (total m f) (total n (λ i. f (m + i))) (f (m + n))
+
+pub total-none : (n : ℕ) (f : ℕ → ℕ) → ((i : ℕ) → i < n → f i ≡ 0) → total n f ≡ 0
+total-none n f h = total-cong n f (λ i. 0) h ∙ total-zero n
+
+-- a sum of which one term is left, exactly
+pub total-only : (n t : ℕ) (f : ℕ → ℕ) → t < n → ((i : ℕ) → i < n → (i ≡ t → ⊥) → f i ≡ 0) → total n f ≡ f t
+unfolding total
+total-only zero t f l h = absurd (not-suc-le-zero l)
+total-only (suc n) t f l h =
+    elim (cases-eq t n) [
+      | inl e ↦ ap (λ a. a + f n) (total-none n f (λ i b. h i (omega arith) (omega arith))) ∙ zero-add (f n) ∙ ap f (sym e)
+      | inr e ↦ ap (λ a. total n f + a) (h n (omega arith) (omega arith)) ∙ add-zero (total n f) ∙ total-only n t f (omega arith) (λ i b k. h i (omega arith) k)
+    ]
+
+-- a bound on each term bounds the sum
+pub total-le : (n m : ℕ) (f : ℕ → ℕ) → ((i : ℕ) → i < n → f i ≤ m) → total n f ≤ n * m
+unfolding total
+total-le zero m f h = omega (arith, zero-mul m)
+total-le (suc n) m f h = omega (arith, suc-mul n m, total-le n m f (λ i b. h i (omega arith)), h n (omega arith))
+
+-- one coordinate more: the step of a loop that multiplies two vectors
+pub product-more : (k : ℕ) (x y : ℕ → ℕ) (s a b : ℕ) → s ≡ product k x y → a ≡ x k → b ≡ y k → (s + a * b) % 6 ≡ product (k + 1) x y
+product-more k x y s a b hs ha hb =
+    ap₂ (λ p q. (s + p * q) % 6) ha hb ∙ ap (λ p. (p + x k * y k) % 6) hs
+    ∙ (let more = total-more k (λ c. x c * y c) in omega arith)
+
+pub product-none : (x y : ℕ → ℕ) → product 0 x y ≡ 0
+product-none x y = ap (λ s. s % 6) (total-start (λ c. x c * y c))
+
+-- a stretch of coordinates more
+pub product-append : (m n : ℕ) (x y : ℕ → ℕ) (s t : ℕ) → s ≡ product m x y → t ≡ total n (λ c. x (m + c) * y (m + c)) → (s + t) % 6 ≡ product (m + n) x y
+product-append m n x y s t hs ht = let more = total-append m n (λ c. x c * y c) in omega arith
+
+-- coordinates at which one vector is 0 count for nothing
+pub product-past : (m n : ℕ) (x y : ℕ → ℕ) → ((c : ℕ) → x (m + c) * y (m + c) ≡ 0) → product (m + n) x y ≡ product m x y
+product-past m n x y h =
+    let more = total-append m n (λ c. x c * y c) in
+    let rest = total-none n (λ c. x (m + c) * y (m + c)) (λ c b. h c) in
+    omega arith
+
+-- the product of two bytes
+pub bytes-product : (a b : ℕ) → a < 256 → b < 256 → a * b ≤ 65025
+bytes-product a b ha hb = mul-le-mul {n₁ = a} {m₁ = b} {n₂ = 255} {m₂ = 255} (omega arith) (omega arith)

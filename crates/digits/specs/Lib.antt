@@ -1,0 +1,6 @@
+pub mod Faults
+pub mod Rows
+pub mod Refusals
+pub mod Sums
+pub mod Elements
+pub mod Tapes
