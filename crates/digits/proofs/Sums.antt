@@ -128,6 +128,9 @@ product-past m n x y h =
     let rest = total-none n (λ c. x (m + c) * y (m + c)) (λ c b. h c) in
     omega arith
 
--- the product of two bytes
+-- the product of two bytes, and of two digits
 pub bytes-product : (a b : ℕ) → a < 256 → b < 256 → a * b ≤ 65025
 bytes-product a b ha hb = mul-le-mul {n₁ = a} {m₁ = b} {n₂ = 255} {m₂ = 255} (omega arith) (omega arith)
+
+pub digits-product : (a b : ℕ) → a < 6 → b < 6 → a * b ≤ 25
+digits-product a b ha hb = mul-le-mul {n₁ = a} {m₁ = b} {n₂ = 5} {m₂ = 5} (omega arith) (omega arith)

@@ -1,4 +1,5 @@
 pub mod Faults
+pub mod Text
 pub mod Rows
 pub mod Refusals
 pub mod Sums

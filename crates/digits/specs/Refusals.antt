@@ -2,7 +2,7 @@
 use mathlib.Core.List.{List}
 use mathlib.Core.Bool.{cond}
 use Prim.Native.Nat.{ℕ}
-use lib.Dec.{eqb}
+use lib.Dec.{eqb, ltb}
 use lib.ListN.{length}
 use Rattle.std.specs.declared.option.Option.{Option}
 use Rattle.std.specs.declared.option.Option.the-variants.{None, Some}
@@ -18,6 +18,10 @@ or-else (Some fault) second = Some fault
 -- what is amiss with a row of bytes as digits: the place of the first above 5
 abbrev pub digits-fault : List ℕ → Option Fault
 digits-fault xs = cond (eqb (first-above xs) (length xs)) None (Some (digit-fault (first-above xs)))
+
+-- what is amiss with a lone digit, which has place 0
+abbrev pub lone-fault : ℕ → Option Fault
+lone-fault d = cond (ltb d 6) None (Some (digit-fault 0))
 
 -- what is amiss with a row that must have n bytes: the length found
 abbrev pub long-fault : ℕ → List ℕ → Option Fault

@@ -9,6 +9,7 @@ ghost use Rattle.digits.specs.Sums.{total, product};
 ghost use Rattle.digits.specs.Refusals.{vectors-fault};
 use crate::fault::Fault;
 use crate::rows::check_digits;
+use crate::rows::check_length;
 
 // So many products of two bytes sum up in 32 bits, so the remainder can wait until after them.
 const STRETCH: usize = 4096;
@@ -48,9 +49,7 @@ pub fn vector_product(a: &[u8], b: &[u8]) -> Result<u8, Fault>
         (λ d. (vectors-fault (now (a .entry)) (now (b .entry)) ≡ None) × (d ≡ product (length (now (a .entry))) (at (now (a .entry))) (at (now (b .entry)))))
         (λ e. vectors-fault (now (a .entry)) (now (b .entry)) ≡ Some e) ⌝ }
 {
-    if b.len() != a.len() {
-        return Err(Fault::length(b.len()));
-    }
+    check_length(b, a.len())?;
     check_digits(a)?;
     check_digits(b)?;
     Ok(dot(a, b))

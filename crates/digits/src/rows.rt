@@ -3,7 +3,7 @@ ghost use mathlib.Core.Path.{_≡_};
 ghost use Prim.Native.Nat.{_+_, _%_};
 ghost use lib.ListN.{set};
 ghost use Rattle.std.specs.Results.{Cases};
-ghost use Rattle.digits.specs.Refusals.{digits-fault, row-fault};
+ghost use Rattle.digits.specs.Refusals.{digits-fault, lone-fault, long-fault, row-fault};
 ghost use Rattle.digits.specs.Rows.{at, first-above};
 ghost use Rattle.std.specs.declared.option.Option.the-variants.{None, Some};
 use crate::fault::Fault;
@@ -27,6 +27,20 @@ pub fn first_above(row: &[u8]) -> usize
     row.len()
 }
 
+// Refuses a lone digit above 5, which has place 0.
+pub fn check_digit(digit: u8) -> Result<(), Fault>
+    ensures { λ r. ⌜ Cases r (λ _. lone-fault digit ≡ None) (λ e. lone-fault digit ≡ Some e) ⌝ }
+{
+    if digit < 6 { Ok(()) } else { Err(Fault::digit(0)) }
+}
+
+// Refuses a row of another length.
+pub fn check_length(row: &[u8], len: usize) -> Result<(), Fault>
+    ensures { λ r. ⌜ Cases r (λ _. long-fault len (now (row .entry)) ≡ None) (λ e. long-fault len (now (row .entry)) ≡ Some e) ⌝ }
+{
+    if row.len() == len { Ok(()) } else { Err(Fault::length(row.len())) }
+}
+
 // Refuses a row that holds a byte above 5, naming the place of the first.
 pub fn check_digits(row: &[u8]) -> Result<(), Fault>
     ensures { λ r. ⌜ Cases r (λ _. digits-fault (now (row .entry)) ≡ None) (λ e. digits-fault (now (row .entry)) ≡ Some e) ⌝ }
@@ -43,9 +57,7 @@ pub fn check_digits(row: &[u8]) -> Result<(), Fault>
 pub fn check_row(row: &[u8], len: usize) -> Result<(), Fault>
     ensures { λ r. ⌜ Cases r (λ _. row-fault len (now (row .entry)) ≡ None) (λ e. row-fault len (now (row .entry)) ≡ Some e) ⌝ }
 {
-    if row.len() != len {
-        return Err(Fault::length(row.len()));
-    }
+    check_length(row, len)?;
     check_digits(row)
 }
 
