@@ -49,7 +49,7 @@ above-none [] e i = omega arith
 above-none (x ∷ xs) e i =
     elim (cases-bool (ltb x 6)) [
       | inl t ↦ from i (omega (arith, ltb-true x 6 t))
-        (above-none xs (let s = cond-true (ltb x 6) (1 + first-above xs) 0 t in omega (arith, s, e)))
+          (above-none xs (let s = cond-true (ltb x 6) (1 + first-above xs) 0 t in omega (arith, s, e)))
       | inr f ↦ absurd (let s = cond-false (ltb x 6) (1 + first-above xs) 0 f in omega (arith, s, e))
     ]
   where

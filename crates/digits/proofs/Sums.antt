@@ -117,6 +117,20 @@ product-more k x y s a b hs ha hb =
 pub product-none : (x y : ℕ → ℕ) → product 0 x y ≡ 0
 product-none x y = ap (λ s. s % 6) (total-start (λ c. x c * y c))
 
+pub product-cong : (k : ℕ) (x y v w : ℕ → ℕ) → ((c : ℕ) → c < k → x c ≡ v c) → ((c : ℕ) → c < k → y c ≡ w c) → product k x y ≡ product k v w
+product-cong k x y v w hx hy =
+    ap (λ s. s % 6) (total-cong k (λ c. x c * y c) (λ c. v c * w c) (λ c b. ap₂ (λ p q. p * q) (hx c b) (hy c b)))
+
+-- a vector of zeros
+pub product-zero : (k : ℕ) (x y : ℕ → ℕ) → ((c : ℕ) → c < k → x c ≡ 0) → product k x y ≡ 0
+product-zero k x y h =
+    ap (λ s. s % 6) (total-none k (λ c. x c * y c) (λ c b. ap (λ p. p * y c) (h c b) ∙ zero-mul (y c)))
+
+-- a vector that is 0 but at one coordinate
+pub product-only : (k t : ℕ) (x y : ℕ → ℕ) → t < k → ((c : ℕ) → c < k → (c ≡ t → ⊥) → x c ≡ 0) → product k x y ≡ x t * y t % 6
+product-only k t x y l h =
+    ap (λ s. s % 6) (total-only k t (λ c. x c * y c) l (λ c b n. ap (λ p. p * y c) (h c b n) ∙ zero-mul (y c)))
+
 -- a stretch of coordinates more
 pub product-append : (m n : ℕ) (x y : ℕ → ℕ) (s t : ℕ) → s ≡ product m x y → t ≡ total n (λ c. x (m + c) * y (m + c)) → (s + t) % 6 ≡ product (m + n) x y
 product-append m n x y s t hs ht = let more = total-append m n (λ c. x c * y c) in omega arith

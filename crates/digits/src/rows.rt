@@ -31,14 +31,22 @@ pub fn first_above(row: &[u8]) -> usize
 pub fn check_digit(digit: u8) -> Result<(), Fault>
     ensures { λ r. ⌜ Cases r (λ _. lone-fault digit ≡ None) (λ e. lone-fault digit ≡ Some e) ⌝ }
 {
-    if digit < 6 { Ok(()) } else { Err(Fault::digit(0)) }
+    if digit < 6 {
+        Ok(())
+    } else {
+        Err(Fault::digit(0))
+    }
 }
 
 // Refuses a row of another length.
 pub fn check_length(row: &[u8], len: usize) -> Result<(), Fault>
     ensures { λ r. ⌜ Cases r (λ _. long-fault len (now (row .entry)) ≡ None) (λ e. long-fault len (now (row .entry)) ≡ Some e) ⌝ }
 {
-    if row.len() == len { Ok(()) } else { Err(Fault::length(row.len())) }
+    if row.len() == len {
+        Ok(())
+    } else {
+        Err(Fault::length(row.len()))
+    }
 }
 
 // Refuses a row that holds a byte above 5, naming the place of the first.

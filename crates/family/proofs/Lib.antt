@@ -1,1 +1,4 @@
+pub mod FirstParts
 pub mod Spreads
+pub mod Units
+pub mod Within

@@ -11,6 +11,7 @@ use Rattle.std.proofs.shelf.Counted.{fill-by-all}
 use Rattle.std.proofs.shelf.Lists.{getD-set-same, getD-set-other}
 use Rattle.std.proofs.shelf.Tests.{cases-eq, cases-lt, lt-ltb, le-ltb, eq-eqb, ne-eqb, cond-true, cond-false, and-left, and-right, and-from, not-from-true, not-from-false}
 use Rattle.digits.specs.Rows.{at}
+use Rattle.digits.proofs.RowLaws.{row-cong}
 use Rattle.family.specs.Spread.{spread-at, spread}
 
 -- what a row holds once the coordinates below c are spread over
@@ -92,3 +93,28 @@ all-passed u amount e k xs ys past long passed =
       | inl b ↦ cond-true _ _ _ (lt-ltb (x / 6) k b)
       | inr b ↦ cond-false _ _ _ (le-ltb (x / 6) k b) ∙ sym (spread-zero u amount e x xs (past (x / 6) b))
     ])
+
+-- a stretch of coordinates where u is 0
+pub skips-to : (u : ℕ → ℕ) (amount e c d : ℕ) (xs ys : List ℕ) → c ≤ d → ((b : ℕ) → c ≤ b → b < d → u b ≡ 0) → Passed u amount e c xs ys → Passed u amount e d xs ys
+skips-to u amount e c d xs ys le zeros passed x l =
+    elim (cases-lt (x / 6) c) [
+      | inl b ↦ passed x l ∙ cond-true _ _ _ (lt-ltb (x / 6) c b) ∙ sym (cond-true _ _ _ (lt-ltb (x / 6) d (omega arith)))
+      | inr b ↦
+          passed x l ∙ cond-false _ _ _ (le-ltb (x / 6) c b)
+          ∙ elim (cases-lt (x / 6) d) [
+            | inl k ↦ sym (spread-zero u amount e x xs (zeros (x / 6) b k)) ∙ sym (cond-true _ _ _ (lt-ltb (x / 6) d k))
+            | inr k ↦ sym (cond-false _ _ _ (le-ltb (x / 6) d k))
+          ]
+    ]
+
+-- what is spread depends on u's digits alone
+pub spread-cong : (u v : ℕ → ℕ) (amount e : ℕ) (xs : List ℕ) → ((c : ℕ) → u c ≡ v c) → spread u amount e xs ≡ spread v amount e xs
+unfolding spread
+spread-cong u v amount e xs h =
+    row-cong (length xs) (spread-at u amount e xs) (spread-at v amount e xs)
+    (λ x l. ap (λ d. cond (eqb (x % 6) (e % 6) && not (eqb d 0)) ((at xs x + amount * d) % 6) (at xs x)) (h (x / 6)))
+
+-- where u is 0 throughout, nothing is spread
+pub spread-nothing : (u : ℕ → ℕ) (amount e : ℕ) (xs : List ℕ) → ((c : ℕ) → u c ≡ 0) → xs ≡ spread u amount e xs
+spread-nothing u amount e xs h =
+    all-passed u amount e 0 xs xs (λ c l. h c) refl (none-passed u amount e xs)

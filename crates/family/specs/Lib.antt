@@ -1,2 +1,4 @@
 pub mod Vectors
 pub mod Spread
+pub mod Units
+pub mod FirstParts

@@ -1,7 +1,9 @@
 -- A family of vectors, as promises speak of it, and when it is a matching family.
 use mathlib.Core.Path.{_≡_}
 use mathlib.Core.Logic.{_⊎_}
+use mathlib.Core.Bool.{cond, _&&_}
 use Prim.Native.Nat.{ℕ, _<_, _≤_}
+use lib.Dec.{ltb}
 use Rattle.digits.specs.Sums.{product}
 
 -- a count of positions, a dimension, and digit c of the vectors u(i) and v(i)
@@ -10,6 +12,10 @@ pub record Vectors : Type 0 where
   pub dim : ℕ
   pub u : ℕ → ℕ → ℕ
   pub v : ℕ → ℕ → ℕ
+
+-- what is told at positions below n and coordinates below k; beyond, it is 0
+abbrev pub within : ℕ → ℕ → (ℕ → ℕ → ℕ) → ℕ → ℕ → ℕ
+within n k digit i c = cond (ltb i n && ltb c k) (digit i c) 0
 
 -- u(i) times v(j)
 abbrev pub pairing : Vectors → ℕ → ℕ → ℕ

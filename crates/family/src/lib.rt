@@ -1,2 +1,4 @@
-// Matching families: the interface that every kind is used by, and the kinds that need no book and no words.
+// Matching families: the interface that every kind is used by, the unit family, and the first part of any family.
 pub mod family;
+pub mod first;
+pub mod unit;

@@ -25,7 +25,9 @@ impl Element {
         ensures { λ r. ⌜ Cases r (λ e. (row-fault 6 (now (row .entry)) ≡ None) × (e .digits ≡ now (row .entry))) (λ f. row-fault 6 (now (row .entry)) ≡ Some f) ⌝ }
     {
         check_row(row, 6)?;
-        Ok(Element { digits: [row[0], row[1], row[2], row[3], row[4], row[5]] })
+        Ok(Element {
+            digits: [row[0], row[1], row[2], row[3], row[4], row[5]],
+        })
     }
 
     // Writes the six digits into a row of that length; any other row is refused and stays as it was.

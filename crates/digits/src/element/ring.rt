@@ -33,7 +33,14 @@ pub impl Add<Element> for Element as ElementAdd {
         let a = self.digits;
         let b = other.digits;
         Element {
-            digits: [added(a[0], b[0]), added(a[1], b[1]), added(a[2], b[2]), added(a[3], b[3]), added(a[4], b[4]), added(a[5], b[5])],
+            digits: [
+                added(a[0], b[0]),
+                added(a[1], b[1]),
+                added(a[2], b[2]),
+                added(a[3], b[3]),
+                added(a[4], b[4]),
+                added(a[5], b[5]),
+            ],
         }
     }
 }
@@ -77,7 +84,14 @@ impl Element {
     {
         let t = s % 6;
         Element {
-            digits: [self.digit(t), self.digit(1 + t), self.digit(2 + t), self.digit(3 + t), self.digit(4 + t), self.digit(5 + t)],
+            digits: [
+                self.digit(t),
+                self.digit(1 + t),
+                self.digit(2 + t),
+                self.digit(3 + t),
+                self.digit(4 + t),
+                self.digit(5 + t),
+            ],
         }
     }
 

@@ -14,6 +14,7 @@ loop-i-again c = fill-by-more (λ k. at (c .args .bytes .now) k % 6) (c .loop-i 
 pub returns : need.returns
 returns c =
     let none = c .in-Continue-check-length .ensures tt in
-    let same = long-fit _ (c .args .bytes .now) none in
-    ( none
-    , fill-by-all (λ k. at (c .args .bytes .now) k % 6) (c .loop-i .tape) (length (c .args .bytes .now)) 0 (omega arith) (λ k h. c .loop-i .inv k (omega arith)))
+    let same = long-fit _ (c .args .bytes .now) none in (
+      none,
+      fill-by-all (λ k. at (c .args .bytes .now) k % 6) (c .loop-i .tape) (length (c .args .bytes .now)) 0 (omega arith) (λ k h. c .loop-i .inv k (omega arith)),
+    )

@@ -20,6 +20,7 @@ loop-i-holds c = (sym (total-start _), omega arith)
 
 pub loop-i-again : need.loop-i-again
 loop-i-again c =
-    let f : ℕ → ℕ = λ i. at (c .args .a .now .digits) i * at (c .args .b .now .digits) ((c .args .r % 6 + 6 - i) % 6) in
-    ( ap₂ (λ s p. s + p) (c .loop-i .inv .0) (ap₂ (λ p q. p * q) (c .from .ensures) (c .from-in-loop-i .ensures)) ∙ sym (total-more (c .loop-i .i) f)
-    , omega (arith, turn c, c .loop-i .inv .1))
+    let f : ℕ → ℕ = λ i. at (c .args .a .now .digits) i * at (c .args .b .now .digits) ((c .args .r % 6 + 6 - i) % 6) in (
+      ap₂ (λ s p. s + p) (c .loop-i .inv .0) (ap₂ (λ p q. p * q) (c .from .ensures) (c .from-in-loop-i .ensures)) ∙ sym (total-more (c .loop-i .i) f),
+      omega (arith, turn c, c .loop-i .inv .1),
+    )

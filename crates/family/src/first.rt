@@ -1,0 +1,74 @@
+// The first part of any family.
+ghost use mathlib.Core.Path.{_≡_};
+ghost use Prim.Native.Nat.{_≤_, _<_};
+ghost use Rattle.std.specs.Results.{Cases};
+ghost use Rattle.digits.specs.Faults.{size-fault};
+ghost use Rattle.digits.specs.declared.fault.Layer.the-variants.{Family as FamilyLayer};
+ghost use Rattle.family.specs.FirstParts.{first-part};
+use crate::family::Family;
+use digits::fault::Fault;
+use digits::fault::Layer;
+
+// The first positions of a family, with the same dimension.
+#[derive(Drop)]
+pub struct FirstPart<F> {
+    family: F,
+    count: usize,
+    ghost some: { 1 ≤ count },
+}
+
+impl<F: Family> FirstPart<F> {
+    // The first positions of a family, from 1 to its count of them; any other number is refused.
+    pub fn new(family: F, count: usize) -> Result<FirstPart<F>, Fault>
+    where
+        F: Drop,
+        ensures { λ r. ⌜ Cases r (λ f. (1 ≤ count) × (count ≤ F·Family .vectors family .count) × (f .family ≡ family) × (f .count ≡ count)) (λ e. (e ≡ size-fault FamilyLayer count) × ((1 ≤ count) × (count ≤ F·Family .vectors family .count) → ⊥)) ⌝ }
+    {
+        if count < 1 || count > family.count() {
+            return Err(Fault::size(Layer::Family, count));
+        }
+        Ok(FirstPart { family, count })
+    }
+}
+
+pub impl<F: Family> Family for FirstPart<F> as FirstPartFamily {
+    ghost vectors = { λ f. first-part (f .count) (F·Family .vectors (f .family)) };
+
+    fn count(&self) -> usize {
+        self.count.min(self.family.count())
+    }
+
+    fn dimension(&self) -> usize {
+        self.family.dimension()
+    }
+
+    fn u(&self, i: usize, c: usize) -> u8 {
+        if i < self.count {
+            self.family.u(i, c)
+        } else {
+            0
+        }
+    }
+
+    fn v(&self, i: usize, c: usize) -> u8 {
+        if i < self.count {
+            self.family.v(i, c)
+        } else {
+            0
+        }
+    }
+
+    fn u_product(&self, i: usize, row: &[u8]) -> u8 {
+        if i < self.count {
+            self.family.u_product(i, row)
+        } else {
+            0
+        }
+    }
+
+    fn spread(&self, i: usize, amount: u8, e: usize, elements: &mut [u8]) {
+        if i < self.count {
+            self.family.spread(i, amount, e, elements);
+        }
+    }
+}
