@@ -1,3 +1,4 @@
 pub mod RowLaws
 pub mod Stretches
 pub mod Sums
+pub mod Turning

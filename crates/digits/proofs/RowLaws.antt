@@ -1,21 +1,22 @@
--- Rows: digit by digit, and what it means that one is not refused.
+-- Rows digit by digit, and what it means that a row or a number is not refused.
 use mathlib.Core.Path.{_≡_, refl, sym, ap, _∙_}
 use mathlib.Core.List.{List, [], _∷_}
-use mathlib.Core.Bool.{true, false}
+use mathlib.Core.Bool.{true, false, _&&_}
 use mathlib.Core.Logic.{inl, inr, ⊎-elim}
 use Prim.Native.Nat.{ℕ, zero, suc, _+_, _<_, _≤_}
 use native.Mathlib.Omega.{arith}
-use lib.Dec.{ltb, eqb}
+use lib.Dec.{ltb, leb, eqb}
 use lib.ListN.{length}
 use Rattle.std.proofs.shelf.Counted.{length-map-counting, getD-map-counting, fill-by-all}
 use Rattle.std.proofs.shelf.Lists.{ext-getD, getD-past}
-use Rattle.std.proofs.shelf.Tests.{cases-lt, cases-bool, lt-ltb, ltb-true, ltb-false, eq-eqb, ne-eqb, eqb-true, cond-true, cond-false}
+use Rattle.std.proofs.shelf.Tests.{cases-lt, cases-bool, lt-ltb, ltb-true, ltb-false, eq-eqb, ne-eqb, eqb-true, leb-true, and-parts, cond-true, cond-false}
 use Rattle.std.specs.declared.option.Option.{Option}
 use Rattle.std.specs.declared.option.Option.the-variants.{None, Some}
-use Rattle.digits.specs.declared.fault.Fault.{Fault}
-use Rattle.digits.specs.Faults.{digit-fault, length-fault}
+use Rattle.faults.specs.declared.Fault.{Fault}
+use Rattle.faults.specs.declared.Layer.{Layer}
+use Rattle.faults.specs.Faults.{digit-fault, length-fault, size-fault}
 use Rattle.digits.specs.Rows.{at, row, Digits, first-above}
-use Rattle.digits.specs.Refusals.{digits-fault, long-fault, row-fault, or-else}
+use Rattle.digits.specs.Refusals.{digits-fault, long-fault, row-fault, limit-fault, or-else}
 
 pub length-row : (n : ℕ) (f : ℕ → ℕ) → length (row n f) ≡ n
 length-row n f = length-map-counting f 0 n
@@ -99,3 +100,11 @@ fit-row n xs e d = none-or-else (long-fault n xs) (digits-fault xs) (fit-long n 
 -- a row of six digits, one by one
 pub six-of : (xs : List ℕ) → length xs ≡ 6 → at xs 0 ∷ at xs 1 ∷ at xs 2 ∷ at xs 3 ∷ at xs 4 ∷ at xs 5 ∷ [] ≡ xs
 six-of xs e = sym (fill-by-all (at xs) xs 6 0 e (λ k h. refl))
+
+-- a number is not refused for its size exactly where it lies within the limits
+pub limit-fit : (part : Layer) (low high n : ℕ) → limit-fault part low high n ≡ None → (low ≤ n) × (n ≤ high)
+limit-fit part low high n e =
+    elim (cases-bool (leb low n && leb n high)) [
+      | inl t ↦ let both = and-parts (leb low n) (leb n high) t in (leb-true low n (both .0), leb-true n high (both .1))
+      | inr f ↦ absurd (some≢none _ (sym (cond-false _ None (Some (size-fault part n)) f) ∙ e))
+    ]

@@ -1,5 +1,3 @@
-pub mod Faults
-pub mod Text
 pub mod Rows
 pub mod Refusals
 pub mod Sums

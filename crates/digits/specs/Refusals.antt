@@ -1,13 +1,14 @@
--- Which rows are refused, and with which fault.
+-- Which rows and numbers are refused, and with which fault.
 use mathlib.Core.List.{List}
-use mathlib.Core.Bool.{cond}
+use mathlib.Core.Bool.{cond, _&&_}
 use Prim.Native.Nat.{ℕ}
-use lib.Dec.{eqb, ltb}
+use lib.Dec.{eqb, leb, ltb}
 use lib.ListN.{length}
 use Rattle.std.specs.declared.option.Option.{Option}
 use Rattle.std.specs.declared.option.Option.the-variants.{None, Some}
-use Rattle.digits.specs.declared.fault.Fault.{Fault}
-use Rattle.digits.specs.Faults.{length-fault, digit-fault}
+use Rattle.faults.specs.declared.Fault.{Fault}
+use Rattle.faults.specs.declared.Layer.{Layer}
+use Rattle.faults.specs.Faults.{length-fault, digit-fault, size-fault}
 use Rattle.digits.specs.Rows.{first-above}
 
 -- the first fault of two, in their order
@@ -34,3 +35,7 @@ row-fault n xs = or-else (long-fault n xs) (digits-fault xs)
 -- what is amiss with two vectors that are to be multiplied: the second's length, then the digits of each
 abbrev pub vectors-fault : List ℕ → List ℕ → Option Fault
 vectors-fault xs ys = or-else (long-fault (length xs) ys) (or-else (digits-fault xs) (digits-fault ys))
+
+-- what is amiss with a number that the part called takes from low to high alone: the number found
+abbrev pub limit-fault : Layer → ℕ → ℕ → ℕ → Option Fault
+limit-fault part low high n = cond (leb low n && leb n high) None (Some (size-fault part n))

@@ -1,7 +1,6 @@
 // Digits modulo 6: faults, rows, the product of two vectors, elements of six digits, and tapes.
-pub mod display;
 pub mod element;
-pub mod fault;
+pub mod limits;
 pub mod product;
 pub mod rows;
 pub mod tape;

@@ -7,9 +7,9 @@ ghost use Rattle.std.specs.declared.option.Option.the-variants.{None, Some};
 ghost use Rattle.digits.specs.Rows.{at};
 ghost use Rattle.digits.specs.Sums.{total, product};
 ghost use Rattle.digits.specs.Refusals.{vectors-fault};
-use crate::fault::Fault;
 use crate::rows::check_digits;
 use crate::rows::check_length;
+use faults::Fault;
 
 // So many products of two bytes sum up in 32 bits, so the remainder can wait until after them.
 const STRETCH: usize = 4096;

@@ -1,12 +1,13 @@
 // Rows of digits: reading a digit, and refusing a row that is none.
 ghost use mathlib.Core.Path.{_≡_};
 ghost use Prim.Native.Nat.{_+_, _%_};
-ghost use lib.ListN.{set};
+ghost use lib.ListN.{length, set};
 ghost use Rattle.std.specs.Results.{Cases};
+ghost use Rattle.std.specs.Vec.{made};
 ghost use Rattle.digits.specs.Refusals.{digits-fault, lone-fault, long-fault, row-fault};
-ghost use Rattle.digits.specs.Rows.{at, first-above};
+ghost use Rattle.digits.specs.Rows.{at, Digits, first-above};
 ghost use Rattle.std.specs.declared.option.Option.the-variants.{None, Some};
-use crate::fault::Fault;
+use faults::Fault;
 
 // The digit at a place of a row; past the end it is 0.
 pub fn digit_at(row: &[u8], place: usize) -> u8
@@ -40,7 +41,8 @@ pub fn check_digit(digit: u8) -> Result<(), Fault>
 
 // Refuses a row of another length.
 pub fn check_length(row: &[u8], len: usize) -> Result<(), Fault>
-    ensures { λ r. ⌜ Cases r (λ _. long-fault len (now (row .entry)) ≡ None) (λ e. long-fault len (now (row .entry)) ≡ Some e) ⌝ }
+    ensures cases { λ r. ⌜ Cases r (λ _. long-fault len (now (row .entry)) ≡ None) (λ e. long-fault len (now (row .entry)) ≡ Some e) ⌝ }
+    ensures fits { λ r. ⌜ made r (λ _. length (now (row .entry)) ≡ len) ⌝ }
 {
     if row.len() == len {
         Ok(())
@@ -51,7 +53,8 @@ pub fn check_length(row: &[u8], len: usize) -> Result<(), Fault>
 
 // Refuses a row that holds a byte above 5, naming the place of the first.
 pub fn check_digits(row: &[u8]) -> Result<(), Fault>
-    ensures { λ r. ⌜ Cases r (λ _. digits-fault (now (row .entry)) ≡ None) (λ e. digits-fault (now (row .entry)) ≡ Some e) ⌝ }
+    ensures cases { λ r. ⌜ Cases r (λ _. digits-fault (now (row .entry)) ≡ None) (λ e. digits-fault (now (row .entry)) ≡ Some e) ⌝ }
+    ensures fits { λ r. ⌜ made r (λ _. Digits (now (row .entry))) ⌝ }
 {
     let place = first_above(row);
     if place == row.len() {
@@ -63,7 +66,8 @@ pub fn check_digits(row: &[u8]) -> Result<(), Fault>
 
 // Refuses a row that is not so many digits: for its length, else for its first byte above 5.
 pub fn check_row(row: &[u8], len: usize) -> Result<(), Fault>
-    ensures { λ r. ⌜ Cases r (λ _. row-fault len (now (row .entry)) ≡ None) (λ e. row-fault len (now (row .entry)) ≡ Some e) ⌝ }
+    ensures cases { λ r. ⌜ Cases r (λ _. row-fault len (now (row .entry)) ≡ None) (λ e. row-fault len (now (row .entry)) ≡ Some e) ⌝ }
+    ensures fits { λ r. ⌜ made r (λ _. (length (now (row .entry)) ≡ len) × Digits (now (row .entry))) ⌝ }
 {
     check_length(row, len)?;
     check_digits(row)

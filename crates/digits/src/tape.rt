@@ -5,8 +5,8 @@ ghost use Rattle.std.specs.Results.{Cases};
 ghost use Rattle.std.specs.declared.option.Option.the-variants.{None, Some};
 ghost use Rattle.digits.specs.Refusals.{long-fault};
 ghost use Rattle.digits.specs.Tapes.{drawn};
-use crate::fault::Fault;
 use crate::rows::check_length;
+use faults::Fault;
 
 // Draws a tape from random bytes, each of which gives its remainder by 6. Rows of unequal length are refused, naming the
 // bytes' length, and the tape stays as it was.

@@ -1,13 +1,15 @@
 // The first part of any family.
 ghost use mathlib.Core.Path.{_≡_};
-ghost use Prim.Native.Nat.{_≤_, _<_};
+ghost use Prim.Native.Nat.{_≤_};
 ghost use Rattle.std.specs.Results.{Cases};
-ghost use Rattle.digits.specs.Faults.{size-fault};
-ghost use Rattle.digits.specs.declared.fault.Layer.the-variants.{Family as FamilyLayer};
+ghost use Rattle.digits.specs.Refusals.{limit-fault};
+ghost use Rattle.std.specs.declared.option.Option.the-variants.{None, Some};
+ghost use Rattle.faults.specs.declared.Layer.the-variants.{Family as FamilyLayer};
 ghost use Rattle.family.specs.FirstParts.{first-part};
 use crate::family::Family;
-use digits::fault::Fault;
-use digits::fault::Layer;
+use digits::limits::check_limits;
+use faults::Fault;
+use faults::Layer;
 
 // The first positions of a family, with the same dimension.
 #[derive(Drop)]
@@ -22,11 +24,11 @@ impl<F: Family> FirstPart<F> {
     pub fn new(family: F, count: usize) -> Result<FirstPart<F>, Fault>
     where
         F: Drop,
-        ensures { λ r. ⌜ Cases r (λ f. (1 ≤ count) × (count ≤ F·Family .vectors family .count) × (f .family ≡ family) × (f .count ≡ count)) (λ e. (e ≡ size-fault FamilyLayer count) × ((1 ≤ count) × (count ≤ F·Family .vectors family .count) → ⊥)) ⌝ }
+        ensures { λ r. ⌜ Cases r
+            (λ f. (limit-fault FamilyLayer 1 (F·Family .vectors family .count) count ≡ None) × (f .family ≡ family) × (f .count ≡ count))
+            (λ e. limit-fault FamilyLayer 1 (F·Family .vectors family .count) count ≡ Some e) ⌝ }
     {
-        if count < 1 || count > family.count() {
-            return Err(Fault::size(Layer::Family, count));
-        }
+        check_limits(Layer::Family, 1, family.count(), count)?;
         Ok(FirstPart { family, count })
     }
 }

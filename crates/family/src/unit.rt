@@ -1,18 +1,17 @@
 // The unit family: as many coordinates as positions, one for each.
 ghost use mathlib.Core.Path.{_≡_};
-ghost use Prim.Native.Nat.{_≤_, _<_};
+ghost use Prim.Native.Nat.{_≤_};
 ghost use Rattle.std.specs.Results.{Cases};
-ghost use Rattle.digits.specs.Faults.{size-fault};
-ghost use Rattle.digits.specs.declared.fault.Layer.the-variants.{Family as FamilyLayer};
-ghost use Rattle.digits.specs.Rows.{at};
-ghost use Rattle.digits.specs.Sums.{product};
-ghost use Rattle.family.specs.Spread.{spread};
+ghost use Rattle.digits.specs.Refusals.{limit-fault};
+ghost use Rattle.std.specs.declared.option.Option.the-variants.{None, Some};
+ghost use Rattle.faults.specs.declared.Layer.the-variants.{Family as FamilyLayer};
 ghost use Rattle.family.specs.Units.{unit-vectors};
 use crate::family::Family;
-use digits::fault::Fault;
-use digits::fault::Layer;
+use digits::limits::check_limits;
 use digits::rows::add_at;
 use digits::rows::digit_at;
+use faults::Fault;
+use faults::Layer;
 
 // The unit family of some count, whose dimension is that count too.
 #[derive(Clone, Copy)]
@@ -25,11 +24,9 @@ pub struct UnitFamily {
 impl UnitFamily {
     // The unit family of a count from 1 to 4,096; any other is refused.
     pub fn new(count: usize) -> Result<UnitFamily, Fault>
-        ensures { λ r. ⌜ Cases r (λ f. (1 ≤ count) × (count ≤ 4096) × (f .count ≡ count)) (λ e. (e ≡ size-fault FamilyLayer count) × ((1 ≤ count) × (count ≤ 4096) → ⊥)) ⌝ }
+        ensures { λ r. ⌜ Cases r (λ f. (limit-fault FamilyLayer 1 4096 count ≡ None) × (f .count ≡ count)) (λ e. limit-fault FamilyLayer 1 4096 count ≡ Some e) ⌝ }
     {
-        if count < 1 || count > 4096 {
-            return Err(Fault::size(Layer::Family, count));
-        }
+        check_limits(Layer::Family, 1, 4096, count)?;
         Ok(UnitFamily { count })
     }
 }

@@ -8,9 +8,9 @@ ghost use Rattle.digits.specs.Elements.{zero-element};
 ghost use Rattle.digits.specs.Refusals.{long-fault, row-fault};
 ghost use Rattle.digits.specs.Rows.{at};
 use crate::element::Element;
-use crate::fault::Fault;
 use crate::rows::check_length;
 use crate::rows::check_row;
+use faults::Fault;
 
 impl Element {
     // The element whose digits are all 0.

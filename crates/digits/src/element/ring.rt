@@ -1,7 +1,7 @@
 // The ring of elements: sum, product, division by a power of g, and scaling by a digit.
 ghost use mathlib.Core.Path.{_≡_};
-ghost use Prim.Native.Nat.{_+_, _-_, _*_, _%_};
-ghost use Rattle.digits.specs.Elements.{plus, times, scaled, turned};
+ghost use Prim.Native.Nat.{ℕ, _+_, _-_, _*_, _%_, _<_};
+ghost use Rattle.digits.specs.Elements.{plus, times, scaled, turned, power};
 ghost use Rattle.digits.specs.Rows.{at};
 ghost use Rattle.digits.specs.Sums.{total};
 use crate::element::Element;
@@ -80,7 +80,8 @@ pub impl Mul<Element> for Element as ElementMul {
 impl Element {
     // The element divided by the power s of g: digit r is digit r + s, modulo 6.
     pub fn turned(&self, s: usize) -> Element
-        ensures { λ r. ⌜ r .digits ≡ turned s (now (self .entry) .digits) ⌝ }
+        ensures value { λ r. ⌜ r .digits ≡ turned s (now (self .entry) .digits) ⌝ }
+        ensures divides { λ r. ⌜ ((q : ℕ) → q < 6 → at (times (power 1 s) (r .digits)) q ≡ at (now (self .entry) .digits) q) ⌝ }
     {
         let t = s % 6;
         Element {

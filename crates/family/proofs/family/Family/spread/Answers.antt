@@ -17,8 +17,9 @@ loop-c-again g c =
     let p : ℕ = 6 * c .loop-c .c + c .args .e % 6 in
     elim (c .if-d-ne0 .came) [
       | then-d-ne0 w ↦
-          let same = w .elements-is ∙ w .add-at .ensures ∙ ap₂ (λ a d. set ys p ((at ys p + a * d) % 6)) (w .from .ensures) (w .from-then-d-ne0 .ensures) in
-          subst next (sym same)
+          let whole : w .from .result ≡ c .args .amount = cc in
+          let digit : w .from-then-d-ne0 .result ≡ c .u-d .result = cc in
+          subst next (sym (w .elements-is ∙ w .add-at .ensures ∙ ap₂ (λ a d. set ys p ((at ys p + a * d) % 6)) whole digit))
           (adds u (c .args .amount) (c .args .e) (c .loop-c .c) xs ys (c .loop-c .inv) p (c .u-d .result) (omega arith) (omega arith) (c .u-d .ensures) (omega arith))
       | else-d-ne0 w ↦
           subst next (sym (w .elements-is))

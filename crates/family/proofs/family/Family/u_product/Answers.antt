@@ -1,4 +1,6 @@
-use mathlib.Core.Path.{sym, _∙_}
+use mathlib.Core.Path.{_≡_, sym}
+use Prim.Native.Nat.{ℕ}
+use Rattle.digits.specs.Rows.{at}
 use Rattle.digits.proofs.Sums.{product-none, product-more}
 use Rattle.family.proofs.family.Family.u_product.Needs as need
 
@@ -7,5 +9,7 @@ loop-c-holds g c = sym (product-none _ _)
 
 pub loop-c-again : need.loop-c-again
 loop-c-again g c =
-    product-more (c .loop-c .c) _ _ (c .loop-c .sum) (c .from .result) (c .from-in-loop-c .result)
-    (c .loop-c .inv) (c .from .ensures ∙ c .u .ensures) (c .from-in-loop-c .ensures ∙ c .digit-at .ensures)
+    let u : ℕ → ℕ = g .Self·Family .vectors (c .args .self .now) .u (c .args .i) in
+    let digit : c .from .result ≡ u (c .loop-c .c) = cc in
+    let other : c .from-in-loop-c .result ≡ at (c .args .row .now) (c .loop-c .c) = cc in
+    product-more (c .loop-c .c) u (at (c .args .row .now)) (c .loop-c .sum) (c .from .result) (c .from-in-loop-c .result) (c .loop-c .inv) digit other

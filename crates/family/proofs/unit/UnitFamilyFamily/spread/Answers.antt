@@ -1,4 +1,4 @@
-use mathlib.Core.Path.{_∙_}
+use mathlib.Core.Path.{_≡_, _∙_}
 use Prim.Native.Nat.{_+_, _*_, _%_}
 use native.Mathlib.Omega.{arith}
 use Rattle.digits.specs.Sums.{same}
@@ -9,9 +9,10 @@ use Rattle.family.proofs.unit.UnitFamilyFamily.spread.Needs as need
 
 pub returns-then-i-self : need.returns-then-i-self
 returns-then-i-self c =
+    let whole : c .from .result ≡ c .args .amount = cc in
     c .add-at .ensures
     ∙ unit-spread (c .args .self .now .count) (c .args .i) (omega arith) (c .args .amount) (c .args .e)
-    (6 * c .args .i + c .args .e % 6) (c .from .result) (c .args .elements .now) (omega arith) (c .from .ensures)
+    (6 * c .args .i + c .args .e % 6) (c .from .result) (c .args .elements .now) (omega arith) whole
 
 pub returns-else-i-self : need.returns-else-i-self
 returns-else-i-self c =

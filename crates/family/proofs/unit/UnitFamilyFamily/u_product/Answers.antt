@@ -1,5 +1,4 @@
-use mathlib.Core.Path.{sym, ap, _∙_}
-use Prim.Native.Nat.{_%_}
+use mathlib.Core.Path.{sym}
 use native.Mathlib.Omega.{arith}
 use Rattle.digits.specs.Rows.{at}
 use Rattle.digits.specs.Sums.{same}
@@ -10,8 +9,8 @@ use Rattle.family.proofs.unit.UnitFamilyFamily.u_product.Needs as need
 
 pub returns-then-i-self : need.returns-then-i-self
 returns-then-i-self c =
-    ap (λ d. d % 6) (c .digit-at .ensures)
-    ∙ sym (unit-product (c .args .self .now .count) (c .args .i) (omega arith) (at (c .args .row .now)))
+    let own = unit-product (c .args .self .now .count) (c .args .i) (omega arith) (at (c .args .row .now)) in
+    omega (arith, own, c .digit-at .ensures)
 
 pub returns-else-i-self : need.returns-else-i-self
 returns-else-i-self c =

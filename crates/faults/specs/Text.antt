@@ -3,10 +3,10 @@ use mathlib.Core.List.{List, [], _∷_, _++_}
 use Prim.Native.Nat.{ℕ}
 use lib.Chars.{codes}
 use Rattle.std.specs.Written.{decimal}
-use Rattle.digits.specs.declared.fault.Cause.{Cause}
-use Rattle.digits.specs.declared.fault.Layer.{Layer}
-use Rattle.digits.specs.declared.fault.Layer.the-variants.{Element, Family, Host, Session}
-use Rattle.digits.specs.Faults.{number-of, word-of, named}
+use Rattle.faults.specs.declared.Cause.{Cause}
+use Rattle.faults.specs.declared.Layer.{Layer}
+use Rattle.faults.specs.declared.Layer.the-variants.{Element, Family, Host, Session}
+use Rattle.faults.specs.Faults.{number-of, word-of, named}
 
 -- numbers in base ten, a space before each
 abbrev pub spaced : List ℕ → List ℕ

@@ -1,8 +1,8 @@
 // Faults as text: a cause as its number, its word and what it names, and a layer as its word.
 ghost use Rattle.std.specs.declared.option.Option.the-variants.{Some};
-ghost use Rattle.digits.specs.Text.{cause-text, layer-text};
-use crate::fault::Cause;
-use crate::fault::Layer;
+ghost use Rattle.faults.specs.Text.{cause-text, layer-text};
+use crate::Cause;
+use crate::Layer;
 use std::fmt;
 
 pub impl fmt::Display for Cause as CauseDisplay {

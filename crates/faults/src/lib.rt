@@ -1,6 +1,8 @@
 // Faults: what a refused call hands back, as a layer and a cause.
 ghost use mathlib.Core.Path.{_≡_};
-ghost use Rattle.digits.specs.Faults.{number-of, word-of, length-fault, digit-fault, size-fault, counts-fault, unmatched-fault, position-fault, spent-fault, at-odds-fault, full-fault};
+ghost use Rattle.faults.specs.Faults.{number-of, word-of, length-fault, digit-fault, size-fault, counts-fault, unmatched-fault, position-fault, spent-fault, at-odds-fault, full-fault};
+
+pub mod display;
 
 // The part of the engine that a refusal speaks for.
 #[derive(Clone, Copy, PartialEq, Eq, Debug)]

@@ -2,11 +2,11 @@
 use mathlib.Core.List.{List, [], _∷_}
 use Prim.Native.Nat.{ℕ}
 use lib.Chars.{codes}
-use Rattle.digits.specs.declared.fault.Cause.{Cause}
-use Rattle.digits.specs.declared.fault.Cause.the-variants.{Length, Digit, Size, Counts, Unmatched, Position, Spent, AtOdds, Full}
-use Rattle.digits.specs.declared.fault.Fault.{Fault}
-use Rattle.digits.specs.declared.fault.Layer.{Layer}
-use Rattle.digits.specs.declared.fault.Layer.the-variants.{Element, Family, Host, Session}
+use Rattle.faults.specs.declared.Cause.{Cause}
+use Rattle.faults.specs.declared.Cause.the-variants.{Length, Digit, Size, Counts, Unmatched, Position, Spent, AtOdds, Full}
+use Rattle.faults.specs.declared.Fault.{Fault}
+use Rattle.faults.specs.declared.Layer.{Layer}
+use Rattle.faults.specs.declared.Layer.the-variants.{Element, Family, Host, Session}
 
 abbrev pub number-of : Cause → ℕ
 number-of (Length found) = 1
