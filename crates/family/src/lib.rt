@@ -2,3 +2,9 @@
 pub mod family;
 pub mod first;
 pub mod unit;
+
+pub use family::Family;
+pub use first::FirstPart;
+pub use first::FirstPartFamily;
+pub use unit::UnitFamily;
+pub use unit::UnitFamilyFamily;
