@@ -4,8 +4,8 @@ ghost use Rattle.digits.specs.Rows.{at};
 ghost use Rattle.digits.specs.Sums.{product};
 ghost use Rattle.family.specs.Spread.{spread};
 ghost use Rattle.family.specs.Vectors.{Vectors, Family as MatchingFamily};
-use digits::rows::add_at;
-use digits::rows::digit_at;
+use digits::add_at;
+use digits::digit_at;
 
 // A matching family: for each position i below a count, two vectors of digits u(i) and v(i) of one dimension, such
 // that u(i) times v(i) is 0 and u(i) times v(j) is 1, 3 or 4 for all i other than j.

@@ -7,7 +7,7 @@ ghost use Rattle.std.specs.declared.option.Option.the-variants.{None, Some};
 ghost use Rattle.faults.specs.declared.Layer.the-variants.{Family as FamilyLayer};
 ghost use Rattle.family.specs.FirstParts.{first-part};
 use crate::family::Family;
-use digits::limits::check_limits;
+use digits::check_limits;
 use faults::Fault;
 use faults::Layer;
 

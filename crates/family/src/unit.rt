@@ -7,9 +7,9 @@ ghost use Rattle.std.specs.declared.option.Option.the-variants.{None, Some};
 ghost use Rattle.faults.specs.declared.Layer.the-variants.{Family as FamilyLayer};
 ghost use Rattle.family.specs.Units.{unit-vectors};
 use crate::family::Family;
-use digits::limits::check_limits;
-use digits::rows::add_at;
-use digits::rows::digit_at;
+use digits::add_at;
+use digits::check_limits;
+use digits::digit_at;
 use faults::Fault;
 use faults::Layer;
 

@@ -4,6 +4,9 @@ ghost use Rattle.faults.specs.Faults.{number-of, word-of, length-fault, digit-
 
 pub mod display;
 
+pub use display::CauseDisplay;
+pub use display::LayerDisplay;
+
 // The part of the engine that a refusal speaks for.
 #[derive(Clone, Copy, PartialEq, Eq, Debug)]
 pub enum Layer {

@@ -9,10 +9,10 @@ use crate::letters::letters_of;
 use crate::own::Own;
 use crate::weights::size_at;
 use crate::weights::weight_of;
-use digits::limits::check_limits;
-use digits::rows::add_at;
-use digits::rows::digit_at;
-use family::family::Family;
+use digits::add_at;
+use digits::check_limits;
+use digits::digit_at;
+use family::Family;
 use faults::Fault;
 use faults::Layer;
 

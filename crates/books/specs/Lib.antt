@@ -1,0 +1,5 @@
+pub mod Numbers
+pub mod Layout
+pub mod BookVectors
+pub mod Pairs
+pub mod Books
