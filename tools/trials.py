@@ -4,7 +4,7 @@
 It works everything out anew, digit by digit, and shares no code with the engine. Run it in the repository's folder:
 
     tools/trials.py            writes crates/trials/stdin and crates/trials/stdout
-    tools/trials.py --seed 7   the same cases with other random rows
+    tools/trials.py --seed N   the same cases with other random rows
     tools/trials.py --check    says whether the stored files are those it would write
 """
 import argparse

@@ -19,7 +19,7 @@ use words::Words;
 use words::WordsFamily;
 
 // The answer to one line.
-pub fn answer_to(heap: Global, line: &str) -> Result<String, AllocError> {
+pub(crate) fn answer_to(heap: Global, line: &str) -> Result<String, AllocError> {
     let words: Vec<&str> = line.split(' ').collect(heap)?;
     match words.as_slice() {
         ["element", row, turn, scale] => alone(heap, row, turn, scale),

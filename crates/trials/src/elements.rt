@@ -22,7 +22,12 @@ fn shown(heap: Global, element: &Element) -> Result<String, AllocError> {
 }
 
 // One element: read, turned and scaled.
-pub fn alone(heap: Global, row: &str, turn: &str, scale: &str) -> Result<String, AllocError> {
+pub(crate) fn alone(
+    heap: Global,
+    row: &str,
+    turn: &str,
+    scale: &str,
+) -> Result<String, AllocError> {
     match Element::read(bytes_of(heap, row)?.as_slice()) {
         Ok(e) => {
             let same = shown(heap, &e)?;
@@ -39,7 +44,7 @@ pub fn alone(heap: Global, row: &str, turn: &str, scale: &str) -> Result<String,
 }
 
 // Two elements: their sum and their product. The first that cannot be read is refused.
-pub fn together(heap: Global, one: &str, two: &str) -> Result<String, AllocError> {
+pub(crate) fn together(heap: Global, one: &str, two: &str) -> Result<String, AllocError> {
     match Element::read(bytes_of(heap, one)?.as_slice()) {
         Ok(first) => match Element::read(bytes_of(heap, two)?.as_slice()) {
             Ok(second) => joined(heap, first, second),
@@ -57,7 +62,7 @@ fn joined(heap: Global, first: Element, second: Element) -> Result<String, Alloc
 }
 
 // The product of two vectors.
-pub fn multiplied(heap: Global, one: &str, two: &str) -> Result<String, AllocError> {
+pub(crate) fn multiplied(heap: Global, one: &str, two: &str) -> Result<String, AllocError> {
     match vector_product(
         bytes_of(heap, one)?.as_slice(),
         bytes_of(heap, two)?.as_slice(),
@@ -68,7 +73,7 @@ pub fn multiplied(heap: Global, one: &str, two: &str) -> Result<String, AllocErr
 }
 
 // A tape drawn from random bytes, over what it held before.
-pub fn drawn(heap: Global, bytes: &str, tape: &str) -> Result<String, AllocError> {
+pub(crate) fn drawn(heap: Global, bytes: &str, tape: &str) -> Result<String, AllocError> {
     let mut row = bytes_of(heap, tape)?;
     let came = draw(bytes_of(heap, bytes)?.as_slice(), row.as_mut_slice());
     let after = spaced(heap, row.as_slice())?;

@@ -8,7 +8,11 @@ use std::alloc::AllocError;
 use std::alloc::Global;
 
 // What a line's last words ask of a family.
-pub fn ask<F: Family>(heap: Global, family: &F, words: &[&str]) -> Result<String, AllocError> {
+pub(crate) fn ask<F: Family>(
+    heap: Global,
+    family: &F,
+    words: &[&str],
+) -> Result<String, AllocError> {
     match words {
         [] => sizes(heap, family),
         [i] => vectors(heap, family, number(i)),

@@ -6,7 +6,7 @@ use std::alloc::AllocError;
 use std::alloc::Global;
 
 // The number that a word writes in base ten, or the largest there is where it writes none.
-pub fn number(word: &str) -> usize {
+pub(crate) fn number(word: &str) -> usize {
     match word.parse::<usize>() {
         Ok(n) => n,
         Err(_) => usize::MAX,
@@ -14,7 +14,7 @@ pub fn number(word: &str) -> usize {
 }
 
 // The same, where a byte is wanted.
-pub fn byte(word: &str) -> u8 {
+pub(crate) fn byte(word: &str) -> u8 {
     match word.parse::<u8>() {
         Ok(n) => n,
         Err(_) => u8::MAX,
@@ -31,7 +31,7 @@ fn nibble(c: u8) -> u8 {
 }
 
 // The bytes that a word writes; a lone dash writes none.
-pub fn bytes_of(heap: Global, word: &str) -> Result<Vec<u8>, AllocError> {
+pub(crate) fn bytes_of(heap: Global, word: &str) -> Result<Vec<u8>, AllocError> {
     let mut bytes = Vec::new(heap);
     for pair in word.as_bytes().chunks(2) {
         if let [high, low] = pair {
@@ -42,7 +42,7 @@ pub fn bytes_of(heap: Global, word: &str) -> Result<Vec<u8>, AllocError> {
 }
 
 // A row of digits, with a space before each.
-pub fn spaced(heap: Global, row: &[u8]) -> Result<String, AllocError> {
+pub(crate) fn spaced(heap: Global, row: &[u8]) -> Result<String, AllocError> {
     let mut text = String::new(heap);
     for d in row {
         let one = format!(heap, " {d}")?;
@@ -52,7 +52,7 @@ pub fn spaced(heap: Global, row: &[u8]) -> Result<String, AllocError> {
 }
 
 // A refusal, with its layer.
-pub fn refusal(heap: Global, fault: &Fault) -> Result<String, AllocError> {
+pub(crate) fn refusal(heap: Global, fault: &Fault) -> Result<String, AllocError> {
     let layer = fault.layer;
     let cause = fault.cause;
     format!(heap, "refused {cause} {layer}")

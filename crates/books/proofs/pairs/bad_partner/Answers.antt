@@ -1,7 +1,11 @@
 use borrow.Author.Count.{below-more}
-use mathlib.Core.Path.{sym, ap₂, _∙_}
-use Prim.Native.Nat.{_+_, _*_}
+use mathlib.Core.List.{List}
+use mathlib.Core.Path.{_≡_, sym, ap₂, _∙_}
+use Prim.Native.Nat.{ℕ, _+_, _*_}
 use native.Mathlib.Omega.{arith}
+use lib.ListN.{length}
+use Rattle.digits.specs.Rows.{at}
+use Rattle.digits.specs.Sums.{product}
 use Rattle.books.specs.BookVectors.{book-vectors}
 use Rattle.books.specs.Numbers.{count-of}
 use Rattle.books.specs.Pairs.{fits, bad-partner}
@@ -33,20 +37,26 @@ pub returns-then-not-is-allowed : need.returns-then-not-is-allowed
 unfolding bad-partner
 returns-then-not-is-allowed c =
     let order = in-order (c .args .bytes .now) (c .pre .order) in
+    let u : List ℕ = c .vector-at-u .result .now in
+    let v : List ℕ = c .vector-at-v .result .now in
+    let times : c .dot .result ≡ product (length u) (at u) (at v) = cc in
     let here =
-    fits-is (c .args .bytes .now) (c .second-start-second .result) (c .args .dimension) (c .args .i) (c .loop-j .j) _ _ order
+    fits-is (c .args .bytes .now) (c .second-start-second .result) (c .args .dimension) (c .args .i) (c .loop-j .j) u v order
     (c .pre .wide) (c .second-start-second .ensures ∙ ap₂ (λ n k. 10 + n * k) (c .pre .counted) (c .pre .wide)) (omega arith) (omega arith)
-    (c .vector-at-u .ensures) (c .vector-at-v .ensures) _ _ (c .dot .ensures) (c .is-allowed .ensures) in
+    (c .vector-at-u .ensures) (c .vector-at-v .ensures) (c .dot .result) (c .is-allowed .result) times (c .is-allowed .ensures) in
     sym (first-is (fits (book-vectors (c .args .bytes .now)) (c .args .i)) (count-of (c .args .bytes .now)) (c .loop-j .j) (omega arith)
     (c .loop-j .inv) (λ l. sym here ∙ c .if-not-is-allowed .taken))
 
 pub loop-j-again : need.loop-j-again
 loop-j-again c =
     let order = in-order (c .args .bytes .now) (c .pre .order) in
+    let u : List ℕ = c .vector-at-u .result .now in
+    let v : List ℕ = c .vector-at-v .result .now in
+    let times : c .dot .result ≡ product (length u) (at u) (at v) = cc in
     let here =
-    fits-is (c .args .bytes .now) (c .second-start-second .result) (c .args .dimension) (c .args .i) (c .loop-j .j) _ _ order
+    fits-is (c .args .bytes .now) (c .second-start-second .result) (c .args .dimension) (c .args .i) (c .loop-j .j) u v order
     (c .pre .wide) (c .second-start-second .ensures ∙ ap₂ (λ n k. 10 + n * k) (c .pre .counted) (c .pre .wide)) (omega arith) (omega arith)
-    (c .vector-at-u .ensures) (c .vector-at-v .ensures) _ _ (c .dot .ensures) (c .is-allowed .ensures) in
+    (c .vector-at-u .ensures) (c .vector-at-v .ensures) (c .dot .result) (c .is-allowed .result) times (c .is-allowed .ensures) in
     below-more _ _ (c .loop-j .inv) (sym here ∙ c .if-not-is-allowed .left)
 
 pub returns : need.returns

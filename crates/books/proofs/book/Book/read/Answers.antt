@@ -1,3 +1,4 @@
+use borrow.Author.Needs.{needs}
 use mathlib.Core.Bool.{false}
 use mathlib.Core.Path.{_≡_, refl, ap, sym, _∙_}
 use Rattle.std.specs.Of.Vec.{vec-items}
@@ -38,7 +39,9 @@ ghost-result c =
     let wide : c .unwrap-dimension .result ≡ dimension-of (c .as-slice .result .now) =
     let some = sym (c .unwrap-dimension .ensures) ∙ c .examine-report .ensures .dimension ∙ told .0 in cc some in
     let value = c .as-slice .ensures .value in
-    (ap isSome (ap book-fault (sym value) ∙ none), (counted ∙ ap count-of value, (wide ∙ ap dimension-of value, tt)))
+    let told-count : c .unwrap-count .result ≡ count-of (vec-items (c .args .bytes)) = counted ∙ ap count-of value in
+    let told-dimension : c .unwrap-dimension .result ≡ dimension-of (vec-items (c .args .bytes)) = wide ∙ ap dimension-of value in
+    (ap isSome (ap book-fault (sym value) ∙ none), search needs)
 
 pub returns : need.returns
 returns c =
