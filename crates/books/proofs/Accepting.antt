@@ -8,7 +8,7 @@ use lib.ListN.{length, drop}
 use Rattle.std.specs.Options.{isSome, mapped}
 use Rattle.std.specs.declared.option.Option.{Option}
 use Rattle.std.specs.declared.option.Option.the-variants.{None, Some}
-use Rattle.digits.proofs.RowLaws.{or-else-none, none-or-else}
+use Rattle.digits.proofs.Passing.{or-else-none, none-or-else}
 use Rattle.family.specs.Vectors.{Matches}
 use Rattle.books.specs.BookVectors.{book-vectors}
 use Rattle.books.specs.Books.{book-fault, told, told-dimension, told-count}
@@ -16,7 +16,7 @@ use Rattle.books.specs.Layout.{dimension-fault, count-fault, layout-fault}
 use Rattle.books.specs.Numbers.{dimension-of, count-of}
 use Rattle.books.specs.Pairs.{bad-pair, pairs-fault}
 use Rattle.books.proofs.Matching.{matches-if-none, none-if-matches}
-use Rattle.books.proofs.Parts.{some≢none}
+use Rattle.digits.proofs.Passing.{some≢none}
 
 none-of : {X : Type 0} (o : Option X) → isSome o ≡ false → o ≡ None
 none-of None e = refl

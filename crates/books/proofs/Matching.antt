@@ -14,7 +14,7 @@ use Rattle.std.proofs.shelf.Ways.{tells}
 use Rattle.family.specs.Vectors.{Vectors, Matches, Apart, pairing}
 use Rattle.books.specs.Pairs.{allowed, fits, bad-partner, bad-position, bad-pair}
 use Rattle.books.proofs.Firsts.{first-is, passes}
-use Rattle.books.proofs.Parts.{passed, some≢none}
+use Rattle.digits.proofs.Passing.{passed, some≢none}
 
 -- where each position before i fits with all, i decides
 module _ (f : Vectors) (i : ℕ) (before : (k : ℕ) → k < i → eqb (bad-partner f k) (f .count) ≡ true) where

@@ -12,10 +12,12 @@ use Rattle.faults.specs.declared.Layer.the-variants.{Family}
 use Rattle.faults.specs.declared.Fault.{Fault}
 use Rattle.digits.specs.Refusals.{or-else, limit-fault}
 use Rattle.digits.specs.Rows.{Digits}
-use Rattle.digits.proofs.RowLaws.{or-else-none, above-none, limit-fit}
+use Rattle.digits.proofs.Passing.{or-else-none}
+use Rattle.digits.proofs.RowLaws.{above-none, limit-fit}
 use Rattle.books.specs.Layout.{short-fault, dimension-fault, count-fault, second-fault, section-fault, layout-fault}
 use Rattle.books.specs.Numbers.{dimension-of, count-of, size-of, second-of}
-use Rattle.books.proofs.Parts.{passed, enough}
+use Rattle.digits.proofs.Passing.{passed}
+use Rattle.books.proofs.Parts.{enough}
 
 pub record InOrder (bs : List ℕ) : Type 0 where
   pub wide : 1 ≤ dimension-of bs

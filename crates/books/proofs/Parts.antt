@@ -15,20 +15,8 @@ use Rattle.std.proofs.shelf.Tests.{cases-bool, cond-true, cond-false, le-ltb, l
 use Rattle.faults.specs.declared.Fault.{Fault}
 use Rattle.digits.specs.Refusals.{or-else}
 use Rattle.digits.specs.Rows.{first-above}
-use Rattle.digits.proofs.RowLaws.{none-or-else}
+use Rattle.digits.proofs.Passing.{failed, goes-on, none-or-else}
 use Rattle.books.specs.Layout.{short-fault, section-fault, second-fault, end-fault, sections-fault}
-
-pub some≢none : {X : Type 0} (x : X) → _≡_ {A = Option X} (Some x) None → ⊥
-some≢none x e = let z : _≡_ {A = ℕ} 0 1 = cc in omega arith
-
--- a test that refuses where it fails has passed, and one that refuses where it passes has failed
-pub passed : {X : Type 0} (b : Bool) (x : X) → cond b None (Some x) ≡ None → b ≡ true
-passed b x e =
-    elim (cases-bool b) [ inl t ↦ t | inr n ↦ absurd (some≢none x (sym (cond-false b None (Some x) n) ∙ e)) ]
-
-pub failed : {X : Type 0} (b : Bool) (x : X) → cond b (Some x) None ≡ None → b ≡ false
-failed b x e =
-    elim (cases-bool b) [ inl t ↦ absurd (some≢none x (sym (cond-true b (Some x) None t) ∙ e)) | inr n ↦ n ]
 
 pub long-enough : (len whole : ℕ) (rest : List ℕ) → len ≤ length rest → short-fault len whole rest ≡ None
 long-enough len whole rest h = cond-false _ _ _ (le-ltb (length rest) len h)
@@ -42,13 +30,6 @@ pub all-digits : (len whole : ℕ) (rest : List ℕ) → len ≤ length rest →
 all-digits len whole rest h k =
     none-or-else _ _ (long-enough len whole rest h)
     (cond-true _ _ _ (eq-eqb _ len (omega (arith, length-take-le len rest h, leading-le-length (λ x. ltb x 6) (take len rest)))))
-
--- where one part passes, the next decides
-pub goes-on : (first second o : Option Fault) → first ≡ None → second ≡ o → or-else first second ≡ o
-goes-on first second o e h = ap (λ f. or-else f second) e ∙ h
-
-pub stops : (first second : Option Fault) (f : Fault) → first ≡ Some f → or-else first second ≡ Some f
-stops first second f e = ap (λ o. or-else o second) e
 
 -- behind the second count the second section decides, and then what is left
 pub second-section : (first size whole : ℕ) (rest after last : List ℕ) (o : Option Fault) →

@@ -12,7 +12,7 @@ use Rattle.books.specs.Books.{book-fault, told, told-dimension, told-count, to
 use Rattle.books.specs.Layout.{dimension-fault, count-fault, sections-fault, layout-fault}
 use Rattle.books.specs.Numbers.{number, dimension-of, count-of}
 use Rattle.books.specs.Pairs.{bad-pair, pairs-fault, tried}
-use Rattle.books.proofs.Parts.{goes-on, stops}
+use Rattle.digits.proofs.Passing.{goes-on, stops}
 
 pub record Tells (bs : List ℕ) (dimension positions pairs : Option ℕ) (fault : Option Fault) : Type 0 where
   pub dimension-told : dimension ≡ told-dimension bs

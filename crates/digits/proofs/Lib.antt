@@ -1,3 +1,4 @@
+pub mod Passing
 pub mod RowLaws
 pub mod Stretches
 pub mod Sums

@@ -14,9 +14,10 @@ use Rattle.std.specs.declared.option.Option.{Option}
 use Rattle.std.specs.declared.option.Option.the-variants.{None, Some}
 use Rattle.faults.specs.declared.Fault.{Fault}
 use Rattle.faults.specs.declared.Layer.{Layer}
-use Rattle.faults.specs.Faults.{digit-fault, length-fault, size-fault}
+use Rattle.faults.specs.Faults.{digit-fault, length-fault}
 use Rattle.digits.specs.Rows.{at, row, Digits, first-above}
-use Rattle.digits.specs.Refusals.{digits-fault, long-fault, row-fault, limit-fault, or-else}
+use Rattle.digits.proofs.Passing.{passed, or-else-none, none-or-else}
+use Rattle.digits.specs.Refusals.{digits-fault, long-fault, row-fault, limit-fault}
 
 pub length-row : (n : ℕ) (f : ℕ → ℕ) → length (row n f) ≡ n
 length-row n f = length-map-counting f 0 n
@@ -58,38 +59,19 @@ above-none (x ∷ xs) e i =
     from zero h d = h
     from (suc i) h d = d i
 
-some≢none : (f : Fault) → _≡_ {A = Option Fault} (Some f) None → ⊥
-some≢none f e = let z : _≡_ {A = ℕ} 0 1 = cc in omega arith
-
 -- a row is not refused for its digits exactly where each is one
 pub digits-fit : (xs : List ℕ) → digits-fault xs ≡ None → Digits xs
-digits-fit xs e =
-    elim (cases-bool (eqb (first-above xs) (length xs))) [
-      | inl t ↦ above-none xs (eqb-true _ _ t)
-      | inr f ↦ absurd (some≢none _ (sym (cond-false _ None (Some (digit-fault (first-above xs))) f) ∙ e))
-    ]
+digits-fit xs e = above-none xs (eqb-true _ _ (passed _ _ e))
 
 pub fit-digits : (xs : List ℕ) → Digits xs → digits-fault xs ≡ None
 fit-digits xs d = cond-true _ None (Some (digit-fault (first-above xs))) (eq-eqb _ _ (none-above xs d))
 
 -- a row is not refused for its length exactly where that is the one wanted
 pub long-fit : (n : ℕ) (xs : List ℕ) → long-fault n xs ≡ None → length xs ≡ n
-long-fit n xs e =
-    elim (cases-bool (eqb (length xs) n)) [
-      | inl t ↦ eqb-true _ _ t
-      | inr f ↦ absurd (some≢none _ (sym (cond-false _ None (Some (length-fault (length xs))) f) ∙ e))
-    ]
+long-fit n xs e = eqb-true _ _ (passed _ _ e)
 
 pub fit-long : (n : ℕ) (xs : List ℕ) → length xs ≡ n → long-fault n xs ≡ None
 fit-long n xs e = cond-true _ None (Some (length-fault (length xs))) (eq-eqb _ _ e)
-
--- nothing is amiss where neither of two checks finds a fault
-pub or-else-none : (first second : Option Fault) → or-else first second ≡ None → (first ≡ None) × (second ≡ None)
-or-else-none None second e = (refl, e)
-or-else-none (Some f) second e = absurd (some≢none f e)
-
-pub none-or-else : (first second : Option Fault) → first ≡ None → second ≡ None → or-else first second ≡ None
-none-or-else first second e h = ap (λ f. or-else f second) e ∙ h
 
 pub row-fit : (n : ℕ) (xs : List ℕ) → row-fault n xs ≡ None → (length xs ≡ n) × Digits xs
 row-fit n xs e = let both = or-else-none (long-fault n xs) (digits-fault xs) e in (long-fit n xs (both .0), digits-fit xs (both .1))
@@ -104,7 +86,5 @@ six-of xs e = sym (fill-by-all (at xs) xs 6 0 e (λ k h. refl))
 -- a number is not refused for its size exactly where it lies within the limits
 pub limit-fit : (part : Layer) (low high n : ℕ) → limit-fault part low high n ≡ None → (low ≤ n) × (n ≤ high)
 limit-fit part low high n e =
-    elim (cases-bool (leb low n && leb n high)) [
-      | inl t ↦ let both = and-parts (leb low n) (leb n high) t in (leb-true low n (both .0), leb-true n high (both .1))
-      | inr f ↦ absurd (some≢none _ (sym (cond-false _ None (Some (size-fault part n)) f) ∙ e))
-    ]
+    let both = and-parts (leb low n) (leb n high) (passed _ _ e) in
+    (leb-true low n (both .0), leb-true n high (both .1))

@@ -5,7 +5,8 @@ use lib.ListN.{length}
 use Rattle.std.proofs.shelf.Lists.{length-drop}
 use Rattle.std.proofs.shelf.Results.{err-from-errBy, cases-weaker}
 use Rattle.books.specs.Layout.{end-fault}
-use Rattle.books.proofs.Parts.{stops, goes-on, second-section}
+use Rattle.digits.proofs.Passing.{stops, goes-on}
+use Rattle.books.proofs.Parts.{second-section}
 use Rattle.books.proofs.sections.check_sections.Needs as need
 
 pub take-digits-requires-2 : need.take-digits-requires-2

@@ -10,7 +10,7 @@ use Rattle.std.proofs.shelf.Tests.{false≢true}
 use Rattle.books.specs.Books.{book-fault}
 use Rattle.books.specs.Numbers.{count-of, dimension-of}
 use Rattle.books.proofs.Accepting.{only-families, all-families, told-both}
-use Rattle.books.proofs.Parts.{some≢none}
+use Rattle.digits.proofs.Passing.{some≢none}
 use Rattle.books.proofs.book.Book.read.Needs as need
 
 pub returns-in-Break-report : need.returns-in-Break-report
