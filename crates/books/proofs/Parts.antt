@@ -1,17 +1,15 @@
 -- When a part of a book passes, and what follows where it does.
-use mathlib.Core.Bool.{Bool, cond, true, false}
 use mathlib.Core.List.{List}
-use mathlib.Core.Logic.{inl, inr}
 use mathlib.Core.Path.{_≡_, sym, ap, subst, _∙_}
 use Prim.Native.Nat.{ℕ, _+_, _≤_}
 use native.Mathlib.Omega.{arith}
 use lib.Dec.{ltb}
 use lib.ListN.{length, take, drop}
 use Rattle.std.specs.declared.option.Option.{Option}
-use Rattle.std.specs.declared.option.Option.the-variants.{None, Some}
+use Rattle.std.specs.declared.option.Option.the-variants.{None}
 use Rattle.std.proofs.shelf.Lists.{length-take-le, drop-drop}
 use Rattle.std.proofs.shelf.Sums.{leading-le-length}
-use Rattle.std.proofs.shelf.Tests.{cases-bool, cond-true, cond-false, le-ltb, ltb-false, eq-eqb}
+use Rattle.std.proofs.shelf.Tests.{cond-true, cond-false, le-ltb, ltb-false, eq-eqb}
 use Rattle.faults.specs.declared.Fault.{Fault}
 use Rattle.digits.specs.Refusals.{or-else}
 use Rattle.digits.specs.Rows.{first-above}

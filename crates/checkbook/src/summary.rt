@@ -1,9 +1,6 @@
 // The summary of an examination: a line for each thing found, and the verdict last.
 ghost use mathlib.Core.Path.{_≡_};
-ghost use mathlib.Core.Bool.{cond};
-ghost use mathlib.Core.List.{_++_};
 ghost use Rattle.std.specs.Of.String.{string-bytes};
-ghost use Rattle.std.specs.Results.{isOk};
 ghost use Rattle.std.specs.Vec.{made};
 ghost use Rattle.checkbook.specs.Summaries.{found-line, summary, verdict-line};
 use books::Report;

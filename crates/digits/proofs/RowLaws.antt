@@ -1,18 +1,15 @@
 -- Rows digit by digit, and what it means that a row or a number is not refused.
 use mathlib.Core.Path.{_≡_, refl, sym, ap, _∙_}
 use mathlib.Core.List.{List, [], _∷_}
-use mathlib.Core.Bool.{true, false, _&&_}
 use mathlib.Core.Logic.{inl, inr, ⊎-elim}
 use Prim.Native.Nat.{ℕ, zero, suc, _+_, _<_, _≤_}
 use native.Mathlib.Omega.{arith}
-use lib.Dec.{ltb, leb, eqb}
+use lib.Dec.{ltb, leb}
 use lib.ListN.{length}
 use Rattle.std.proofs.shelf.Counted.{length-map-counting, getD-map-counting, fill-by-all}
 use Rattle.std.proofs.shelf.Lists.{ext-getD, getD-past}
-use Rattle.std.proofs.shelf.Tests.{cases-lt, cases-bool, lt-ltb, ltb-true, ltb-false, eq-eqb, ne-eqb, eqb-true, leb-true, and-parts, cond-true, cond-false}
-use Rattle.std.specs.declared.option.Option.{Option}
+use Rattle.std.proofs.shelf.Tests.{cases-lt, cases-bool, lt-ltb, ltb-true, eq-eqb, eqb-true, leb-true, and-parts, cond-true, cond-false}
 use Rattle.std.specs.declared.option.Option.the-variants.{None, Some}
-use Rattle.faults.specs.declared.Fault.{Fault}
 use Rattle.faults.specs.declared.Layer.{Layer}
 use Rattle.faults.specs.Faults.{digit-fault, length-fault}
 use Rattle.digits.specs.Rows.{at, row, Digits, first-above}

@@ -1,11 +1,11 @@
 -- Digits told within a count and a dimension, and 0 beyond.
-use mathlib.Core.Path.{_≡_, sym, ap, subst, _∙_}
-use mathlib.Core.Bool.{cond, _&&_}
+use mathlib.Core.Path.{_≡_}
+use mathlib.Core.Bool.{_&&_}
 use Prim.Native.Nat.{ℕ, _<_, _≤_}
 use native.Mathlib.Omega.{arith}
 use lib.Dec.{ltb}
 use Rattle.std.proofs.shelf.Tests.{lt-ltb, le-ltb, ltb-true, cond-true, cond-false, cond-both, and-from, and-left, and-right, and-parts}
-use Rattle.family.specs.Vectors.{Vectors, Told, within}
+use Rattle.family.specs.Vectors.{Told, within}
 
 pub within-in : (n k : ℕ) (digit : ℕ → ℕ → ℕ) (i c : ℕ) → i < n → c < k → within n k digit i c ≡ digit i c
 within-in n k digit i c hi hc = cond-true _ (digit i c) 0 (and-from _ _ (lt-ltb i n hi) (lt-ltb c k hc))

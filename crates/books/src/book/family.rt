@@ -1,5 +1,4 @@
 // A book as a family.
-ghost use mathlib.Core.Path.{_≡_};
 ghost use Rattle.std.specs.Of.Vec.{vec-items};
 ghost use Rattle.books.specs.BookVectors.{book-vectors};
 use crate::book::Book;

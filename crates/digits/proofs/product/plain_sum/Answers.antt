@@ -1,8 +1,7 @@
-use mathlib.Core.Path.{_≡_, sym, ap₂, _∙_}
+use mathlib.Core.Path.{sym, ap₂, _∙_}
 use Prim.Native.Nat.{ℕ, _+_, _*_, _≤_}
 use native.Mathlib.Omega.{arith}
 use Rattle.digits.specs.Rows.{at}
-use Rattle.digits.specs.Sums.{total}
 use Rattle.digits.proofs.Sums.{total-more, total-start, bytes-product}
 use Rattle.digits.proofs.product.plain_sum.Needs as need
 
