@@ -187,7 +187,7 @@ def alone(row, s, a):
 
 def together(one, two):
     e, f = element(one), element(two)
-    return f"sum{spaced([(x + y) % 6 for x, y in zip(e, f)])} product{spaced(times(e, f))}"
+    return f"sum{spaced([(x + y) % 6 for x, y in zip(e, f)])} product{spaced(times(e, f))} same {str(e == f).lower()}"
 
 
 def multiplied(one, two):
@@ -318,6 +318,11 @@ def cases(rng):
         s, a = rng.randint(0, 13), rng.randint(0, 255)
         yield f"element {hexed(one)} {s} {a}", lambda one=one, s=s, a=a: alone(one, s, a)
         yield f"elements {hexed(one)} {hexed(two)}", lambda one=one, two=two: together(one, two)
+    for place in range(6):
+        one = some_row(rng, 6)
+        two = one[:place] + [(one[place] + 1) % 6] + one[place + 1:]
+        yield f"elements {hexed(one)} {hexed(two)}", lambda one=one, two=two: together(one, two)
+        yield f"elements {hexed(one)} {hexed(one)}", lambda one=one: together(one, one)
     yield "elements 000003000000 000000000200", lambda: together([0, 0, 3, 0, 0, 0], [0, 0, 0, 0, 2, 0])
     for n in (0, 1, 5, 6, 7, 12):
         row = some_row(rng, n)

@@ -41,3 +41,17 @@ module _ (p : ℕ → Bool) where
   -- each number before the first passes
   pub passes : (n k : ℕ) → k < leading p (counting 0 n) → p k ≡ true
   passes n k h = ap p (omega arith) ∙ passes-from 0 n k h
+
+  fails-from : (a n : ℕ) → leading p (counting a n) < n → p (a + leading p (counting a n)) ≡ false
+  fails-from a zero h = absurd (omega arith)
+  fails-from a (suc n) h =
+      elim (cases-bool (p a)) [
+        | inl t ↦
+            let front = cond-true (p a) (1 + leading p (counting (a + 1) n)) 0 t in
+            ap p (omega (arith, front)) ∙ fails-from (a + 1) n (omega (arith, h, front))
+        | inr f ↦ ap p (omega (arith, cond-false (p a) (1 + leading p (counting (a + 1) n)) 0 f)) ∙ f
+      ]
+
+  -- the first fails, unless it is the limit
+  pub fails : (n : ℕ) → leading p (counting 0 n) < n → p (leading p (counting 0 n)) ≡ false
+  fails n h = ap p (omega arith) ∙ fails-from 0 n h

@@ -10,7 +10,7 @@ use Rattle.faults.specs.declared.Fault.{Fault}
 use Rattle.books.specs.BookVectors.{book-vectors}
 use Rattle.books.specs.Books.{book-fault, told, told-dimension, told-count, told-pairs}
 use Rattle.books.specs.Layout.{dimension-fault, count-fault, sections-fault, layout-fault}
-use Rattle.books.specs.Numbers.{number, dimension-of, count-of}
+use Rattle.books.specs.Numbers.{big-endian, dimension-of, count-of}
 use Rattle.books.specs.Pairs.{bad-pair, pairs-fault, tried}
 use Rattle.digits.proofs.Passing.{goes-on, stops}
 
@@ -39,7 +39,7 @@ module _ (bs : List ℕ) where
       }
 
   -- the dimension is read, and what is left is handed on
-  module _ (k : ℕ) (rest : List ℕ) (dim : (dimension-fault bs ≡ None) × (k ≡ number 2 bs) × (rest ≡ drop 2 bs)) where
+  module _ (k : ℕ) (rest : List ℕ) (dim : (dimension-fault bs ≡ None) × (k ≡ big-endian 2 bs) × (rest ≡ drop 2 bs)) where
     pub at-count : (f : Fault) → count-fault (length bs) rest ≡ Some f → Tells bs (Some k) None None (Some f)
     unfolding layout-fault
     at-count f e =
@@ -53,9 +53,9 @@ module _ (bs : List ℕ) where
         }
 
     -- the count as well
-    module _ (n : ℕ) (after : List ℕ) (count : (count-fault (length bs) rest ≡ None) × (n ≡ number 4 rest) × (after ≡ drop 4 rest)) where
+    module _ (n : ℕ) (after : List ℕ) (count : (count-fault (length bs) rest ≡ None) × (n ≡ big-endian 4 rest) × (after ≡ drop 4 rest)) where
       pub counted : n ≡ count-of bs
-      counted = count .1 ∙ ap (number 4) (dim .2)
+      counted = count .1 ∙ ap (big-endian 4) (dim .2)
 
       pub in-limit : count-fault (length bs) (drop 2 bs) ≡ None
       in-limit = ap (count-fault (length bs)) (sym (dim .2)) ∙ count .0

@@ -16,7 +16,7 @@ use Rattle.std.proofs.shelf.Tests.{cases-lt, lt-ltb, le-ltb, cond-true, cond-fa
 use Rattle.digits.specs.Rows.{at, Digits}
 use Rattle.digits.specs.Sums.{product}
 use Rattle.digits.proofs.Sums.{total-cong, total-none, product-none}
-use Rattle.family.specs.Vectors.{Family}
+use Rattle.family.specs.Vectors.{MatchingFamily}
 use Rattle.family.proofs.Within.{told-within, within-past-count, within-past-dim}
 use Rattle.books.specs.BookVectors.{digit-from, book-vectors}
 use Rattle.books.specs.Books.{book-fault}
@@ -36,7 +36,7 @@ section-digit bs start digits i c h l =
     ∙ sym (getD-take (size-of bs) (drop start bs) place 0 (omega arith) ∙ getD-drop start bs place 0) in
     omega (arith, there, digits place)
 
-pub book-family : (bs : List ℕ) → book-fault bs ≡ None → Family (book-vectors bs)
+pub book-family : (bs : List ℕ) → book-fault bs ≡ None → MatchingFamily (book-vectors bs)
 book-family bs e =
     let both = only-families bs e in
     let order = in-order bs (both .0) in

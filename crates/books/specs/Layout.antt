@@ -11,7 +11,7 @@ use Rattle.faults.specs.declared.Layer.the-variants.{Family}
 use Rattle.faults.specs.Faults.{length-fault, digit-fault, counts-fault}
 use Rattle.digits.specs.Refusals.{or-else, limit-fault}
 use Rattle.digits.specs.Rows.{first-above}
-use Rattle.books.specs.Numbers.{number, count-of, size-of}
+use Rattle.books.specs.Numbers.{big-endian, count-of, size-of}
 
 -- A part is judged from what is left of the book where the part begins, and from the length of the whole book.
 
@@ -20,15 +20,15 @@ abbrev pub short-fault : ℕ → ℕ → List ℕ → Option Fault
 short-fault len whole rest = cond (ltb (length rest) len) (Some (length-fault whole)) None
 
 abbrev pub dimension-fault : List ℕ → Option Fault
-dimension-fault bs = or-else (short-fault 2 (length bs) bs) (limit-fault Family 1 4096 (number 2 bs))
+dimension-fault bs = or-else (short-fault 2 (length bs) bs) (limit-fault Family 1 4096 (big-endian 2 bs))
 
 abbrev pub count-fault : ℕ → List ℕ → Option Fault
-count-fault whole rest = or-else (short-fault 4 whole rest) (limit-fault Family 1 1024 (number 4 rest))
+count-fault whole rest = or-else (short-fault 4 whole rest) (limit-fault Family 1 1024 (big-endian 4 rest))
 
 -- the second count has to be the first
 abbrev pub second-fault : ℕ → ℕ → List ℕ → Option Fault
 second-fault first whole rest =
-    or-else (short-fault 4 whole rest) (cond (eqb (number 4 rest) first) None (Some (counts-fault (number 4 rest))))
+    or-else (short-fault 4 whole rest) (cond (eqb (big-endian 4 rest) first) None (Some (counts-fault (big-endian 4 rest))))
 
 -- so many digits: the first byte above 5 is named by its place in the whole book
 abbrev pub section-fault : ℕ → ℕ → List ℕ → Option Fault

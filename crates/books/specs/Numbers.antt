@@ -5,17 +5,17 @@ use lib.ListN.{drop}
 use Rattle.digits.specs.Rows.{at}
 
 -- the number that so many bytes write at the front of a row, the most significant first
-unfoldable pub number : ℕ → List ℕ → ℕ
-number zero bs = 0
-number (suc len) bs = number len bs * 256 + at bs len
+unfoldable pub big-endian : ℕ → List ℕ → ℕ
+big-endian zero bs = 0
+big-endian (suc len) bs = big-endian len bs * 256 + at bs len
 
 -- the dimension, in the first 2 bytes
 abbrev pub dimension-of : List ℕ → ℕ
-dimension-of bs = number 2 bs
+dimension-of bs = big-endian 2 bs
 
 -- the count of positions, in the 4 bytes after it
 abbrev pub count-of : List ℕ → ℕ
-count-of bs = number 4 (drop 2 bs)
+count-of bs = big-endian 4 (drop 2 bs)
 
 -- how many digits each of the two sections has
 abbrev pub size-of : List ℕ → ℕ

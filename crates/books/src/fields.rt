@@ -3,7 +3,7 @@ ghost use mathlib.Core.Path.{_≡_};
 ghost use lib.ListN.{drop};
 ghost use Rattle.std.specs.Results.{Cases};
 ghost use Rattle.std.specs.declared.option.Option.the-variants.{None, Some};
-ghost use Rattle.books.specs.Numbers.{number};
+ghost use Rattle.books.specs.Numbers.{big-endian};
 ghost use Rattle.books.specs.Layout.{short-fault, dimension-fault, count-fault};
 use digits::check_limits;
 use faults::Fault;
@@ -17,7 +17,7 @@ const MOST_POSITIONS: usize = 1024;
 // A number of two bytes, the most significant first. A book that is too short is refused with its whole length.
 fn take_two(rest: &[u8], whole: usize) -> Result<(usize, &[u8]), Fault>
     ensures { λ r. ⌜ Cases r
-        (λ p. (short-fault 2 whole (now (rest .entry)) ≡ None) × (p .0 ≡ number 2 (now (rest .entry))) × (now (p .1) ≡ drop 2 (now (rest .entry))))
+        (λ p. (short-fault 2 whole (now (rest .entry)) ≡ None) × (p .0 ≡ big-endian 2 (now (rest .entry))) × (now (p .1) ≡ drop 2 (now (rest .entry))))
         (λ e. short-fault 2 whole (now (rest .entry)) ≡ Some e) ⌝ }
 {
     let [a, b, after @ ..] = rest else {
@@ -29,7 +29,7 @@ fn take_two(rest: &[u8], whole: usize) -> Result<(usize, &[u8]), Fault>
 // A number of four bytes, likewise.
 pub(crate) fn take_four(rest: &[u8], whole: usize) -> Result<(usize, &[u8]), Fault>
     ensures { λ r. ⌜ Cases r
-        (λ p. (short-fault 4 whole (now (rest .entry)) ≡ None) × (p .0 ≡ number 4 (now (rest .entry))) × (now (p .1) ≡ drop 4 (now (rest .entry))))
+        (λ p. (short-fault 4 whole (now (rest .entry)) ≡ None) × (p .0 ≡ big-endian 4 (now (rest .entry))) × (now (p .1) ≡ drop 4 (now (rest .entry))))
         (λ e. short-fault 4 whole (now (rest .entry)) ≡ Some e) ⌝ }
 {
     let [a, b, c, d, after @ ..] = rest else {
@@ -41,7 +41,7 @@ pub(crate) fn take_four(rest: &[u8], whole: usize) -> Result<(usize, &[u8]), Fau
 // The dimension, at the front of the book.
 pub(crate) fn take_dimension(bytes: &[u8]) -> Result<(usize, &[u8]), Fault>
     ensures { λ r. ⌜ Cases r
-        (λ p. (dimension-fault (now (bytes .entry)) ≡ None) × (p .0 ≡ number 2 (now (bytes .entry))) × (now (p .1) ≡ drop 2 (now (bytes .entry))))
+        (λ p. (dimension-fault (now (bytes .entry)) ≡ None) × (p .0 ≡ big-endian 2 (now (bytes .entry))) × (now (p .1) ≡ drop 2 (now (bytes .entry))))
         (λ e. dimension-fault (now (bytes .entry)) ≡ Some e) ⌝ }
 {
     let (dimension, rest) = take_two(bytes, bytes.len())?;
@@ -52,7 +52,7 @@ pub(crate) fn take_dimension(bytes: &[u8]) -> Result<(usize, &[u8]), Fault>
 // The first count.
 pub(crate) fn take_count(rest: &[u8], whole: usize) -> Result<(usize, &[u8]), Fault>
     ensures { λ r. ⌜ Cases r
-        (λ p. (count-fault whole (now (rest .entry)) ≡ None) × (p .0 ≡ number 4 (now (rest .entry))) × (now (p .1) ≡ drop 4 (now (rest .entry))))
+        (λ p. (count-fault whole (now (rest .entry)) ≡ None) × (p .0 ≡ big-endian 4 (now (rest .entry))) × (now (p .1) ≡ drop 4 (now (rest .entry))))
         (λ e. count-fault whole (now (rest .entry)) ≡ Some e) ⌝ }
 {
     let (count, after) = take_four(rest, whole)?;

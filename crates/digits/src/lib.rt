@@ -6,6 +6,8 @@ pub mod rows;
 pub mod tape;
 
 pub use element::Element;
+pub use element::forms::ElementEq;
+pub use element::forms::ElementPartialEq;
 pub use element::ring::ElementAdd;
 pub use element::ring::ElementMul;
 pub use limits::check_limits;

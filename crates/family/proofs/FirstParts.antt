@@ -8,7 +8,7 @@ use lib.Dec.{ltb}
 use Rattle.std.proofs.shelf.Tests.{cases-lt, cond-both}
 use Rattle.digits.proofs.Sums.{product-cong}
 use Rattle.family.specs.FirstParts.{first-part}
-use Rattle.family.specs.Vectors.{Vectors, Family, Told, Apart, within, pairing}
+use Rattle.family.specs.Vectors.{Vectors, MatchingFamily, Told, Apart, within, pairing}
 use Rattle.family.proofs.Within.{within-in, within-digit, within-past-count, within-past-dim}
 
 module _ (m : ℕ) (f : Vectors) where
@@ -33,7 +33,7 @@ module _ (m : ℕ) (f : Vectors) where
         | inr b ↦ within-past-count m (f .dim) digit i c b
       ]
 
-  pub first-family : 1 ≤ m → Family f → Family (first-part m f)
+  pub first-family : 1 ≤ m → MatchingFamily f → MatchingFamily (first-part m f)
   first-family some whole = record {
     limits = record { some = omega (arith, whole .limits .some); few = omega (arith, whole .limits .few); wide = whole .limits .wide; narrow = whole .limits .narrow };
     told = record {

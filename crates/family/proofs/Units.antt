@@ -15,7 +15,7 @@ use Rattle.digits.specs.Sums.{product, same}
 use Rattle.digits.proofs.Sums.{product-only}
 use Rattle.family.specs.Spread.{spread}
 use Rattle.family.specs.Units.{unit-vectors}
-use Rattle.family.specs.Vectors.{Family, Matches}
+use Rattle.family.specs.Vectors.{MatchingFamily, Matches}
 use Rattle.family.proofs.Spreads.{Passed, none-passed, skips-to, adds, all-passed}
 use Rattle.family.proofs.Within.{within-in, within-past-dim, told-within}
 
@@ -56,7 +56,7 @@ unit-matches n = record {
       ∙ ap (λ d. d % 6) (within-in n n (λ a c. cond (eqb a c) 0 1) j i hj hi ∙ cond-false (eqb j i) 0 1 (ne-eqb j i (λ e. ne (sym e)))));
 }
 
-pub unit-family : (n : ℕ) → 1 ≤ n → n ≤ 4096 → Family (unit-vectors n)
+pub unit-family : (n : ℕ) → 1 ≤ n → n ≤ 4096 → MatchingFamily (unit-vectors n)
 unit-family n some few = record {
   limits = record { some = some; few = omega arith; wide = some; narrow = few };
   told = told-within n n same (λ i c. cond (eqb i c) 0 1)

@@ -46,7 +46,7 @@ pub record Told (f : Vectors) : Type 0 where
   pub v-past-dim : (i c : ℕ) → f .dim ≤ c → f .v i c ≡ 0
 
 -- a matching family
-pub record Family (f : Vectors) : Type 0 where
+pub record MatchingFamily (f : Vectors) : Type 0 where
   pub limits : Limits f
   pub told : Told f
   pub matches : Matches f

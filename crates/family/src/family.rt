@@ -3,17 +3,18 @@ ghost use mathlib.Core.Path.{_≡_};
 ghost use Rattle.digits.specs.Rows.{at};
 ghost use Rattle.digits.specs.Sums.{product};
 ghost use Rattle.family.specs.Spread.{spread};
-ghost use Rattle.family.specs.Vectors.{Vectors, Family as MatchingFamily};
+ghost use Rattle.family.specs.Vectors.{Vectors, MatchingFamily};
 use digits::add_at;
 use digits::digit_at;
 
 // A matching family: for each position i below a count, two vectors of digits u(i) and v(i) of one dimension, such
-// that u(i) times v(i) is 0 and u(i) times v(j) is 1, 3 or 4 for all i other than j.
+// that u(i) times v(i) is 0 and u(i) times v(j) is 1, 3 or 4 for all i other than j. (The usual name is a matching
+// vector family.) What is proved of code that takes any family is proved from this rule alone.
 // Telling refuses nothing and alters nothing; beyond the last position or coordinate both digits are 0.
 pub trait Family {
     ghost vectors: { Self → Vectors };
 
-    law family: { (f : Self) → MatchingFamily (vectors f) };
+    law matching: { (f : Self) → MatchingFamily (vectors f) };
 
     // How many positions there are, from 1 to 1,048,576.
     fn count(&self) -> usize

@@ -7,6 +7,7 @@ use crate::text::spaced;
 use digits::Element;
 use digits::ElementAdd as _;
 use digits::ElementMul as _;
+use digits::ElementPartialEq as _;
 use digits::draw;
 use digits::vector_product;
 use std::alloc::AllocError;
@@ -54,11 +55,12 @@ pub(crate) fn together(heap: Global, one: &str, two: &str) -> Result<String, All
     }
 }
 
-// The sum and the product of two elements.
+// The sum and the product of two elements, and whether they are the same.
 fn joined(heap: Global, first: Element, second: Element) -> Result<String, AllocError> {
     let sum = shown(heap, &(first + second))?;
     let product = shown(heap, &(first * second))?;
-    format!(heap, "sum{sum} product{product}")
+    let same = first == second;
+    format!(heap, "sum{sum} product{product} same {same}")
 }
 
 // The product of two vectors.

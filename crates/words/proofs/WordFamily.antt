@@ -6,7 +6,7 @@ use native.Mathlib.Omega.{arith}
 use Rattle.std.specs.Iters.{counting}
 use Rattle.std.proofs.shelf.Counted.{length-counting}
 use Rattle.std.proofs.shelf.Tests.{cases-eq, cases-lt}
-use Rattle.family.specs.Vectors.{Apart, Matches, Limits, Told, Family}
+use Rattle.family.specs.Vectors.{Apart, Matches, Limits, Told, MatchingFamily}
 use Rattle.words.specs.Agreement.{by-agreement}
 use Rattle.words.specs.Places.{place-sets}
 use Rattle.words.specs.Words.{letter, weight, word-digit, word-vectors}
@@ -59,5 +59,5 @@ module _ (h q : ℕ) (short : h ≤ 5) (some : 2 ≤ q) (few : q ≤ 16) where
         v-past-dim = digit-past-dim h q (weight h);
       }
 
-  pub words-family : Family (word-vectors h q)
+  pub words-family : MatchingFamily (word-vectors h q)
   words-family = record { limits = words-limits; told = words-told; matches = words-match }

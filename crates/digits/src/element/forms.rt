@@ -3,7 +3,7 @@ ghost use mathlib.Core.Path.{_≡_};
 ghost use Prim.Native.Nat.{_%_};
 ghost use Rattle.std.specs.Results.{Cases};
 ghost use Rattle.std.specs.declared.option.Option.the-variants.{None, Some};
-ghost use Rattle.digits.specs.Elements.{zero-element};
+ghost use Rattle.digits.specs.Elements.{alike, zero-element};
 ghost use Rattle.digits.specs.Refusals.{long-fault, row-fault};
 ghost use Rattle.digits.specs.Rows.{at};
 use crate::element::Element;
@@ -47,3 +47,15 @@ impl Element {
         self.digits[r % 6]
     }
 }
+
+pub impl PartialEq<Element> for Element as ElementPartialEq {
+    ghost equals = { λ e f r. r ≡ alike (e .digits) (f .digits) };
+
+    fn eq(&self, other: &Element) -> bool {
+        let a = self.digits;
+        let b = other.digits;
+        a[0] == b[0] && a[1] == b[1] && a[2] == b[2] && a[3] == b[3] && a[4] == b[4] && a[5] == b[5]
+    }
+}
+
+pub impl Eq for Element as ElementEq {}

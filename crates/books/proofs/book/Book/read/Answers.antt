@@ -9,7 +9,7 @@ use Rattle.std.proofs.shelf.Results.{err-from-errBy}
 use Rattle.std.proofs.shelf.Tests.{false≢true}
 use Rattle.books.specs.Books.{book-fault}
 use Rattle.books.specs.Numbers.{count-of, dimension-of}
-use Rattle.books.proofs.Accepting.{only-families, all-families, told-both}
+use Rattle.books.proofs.Accepting.{only-families, all-families, first-fault, told-both}
 use Rattle.digits.proofs.Passing.{some≢none}
 use Rattle.books.proofs.book.Book.read.Needs as need
 
@@ -23,6 +23,7 @@ returns-in-Break-report c =
       cases = fault;
       sound = λ e. absurd (false≢true e);
       complete = λ layout m. absurd (some≢none _ (sym fault ∙ all-families (vec-items (c .args .bytes)) layout m));
+      unmatched = λ layout i j e. first-fault (vec-items (c .args .bytes)) layout i j (fault ∙ e);
     }
 
 pub unwrap-count-requires : need.unwrap-count-requires
@@ -51,4 +52,5 @@ returns c =
       cases = (refl, none);
       sound = λ e. only-families (vec-items (c .args .bytes)) none;
       complete = λ layout m. refl;
+      unmatched = λ layout i j e. absurd (some≢none _ (sym e));
     }

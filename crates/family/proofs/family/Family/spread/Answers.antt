@@ -29,5 +29,5 @@ loop-c-again g c =
 pub returns : need.returns
 returns g c =
     all-passed (g .Self·Family .vectors (c .args .self .now) .u (c .args .i)) (c .args .amount) (c .args .e) (c .loop-c .c) (c .args .elements .now) (c .loop-c .elements)
-    (λ k h. g .Self·Family·met .family (c .args .self .now) .told .u-past-dim (c .args .i) k (omega arith))
+    (λ k h. g .Self·Family·met .matching (c .args .self .now) .told .u-past-dim (c .args .i) k (omega arith))
     (omega arith) (c .loop-c .inv)

@@ -10,7 +10,7 @@ returns-then-i-self g c =
     let f = g .F·Family .vectors (c .args .self .now .family) in
     c .spread .ensures
     ∙ sym (spread-cong _ (f .u (c .args .i)) (c .args .amount) (c .args .e) (c .args .elements .now)
-    (first-u (c .args .self .now .count) f (g .F·Family·met .family (c .args .self .now .family) .told) (c .args .i) (omega arith)))
+    (first-u (c .args .self .now .count) f (g .F·Family·met .matching (c .args .self .now .family) .told) (c .args .i) (omega arith)))
 
 pub returns-else-i-self : need.returns-else-i-self
 returns-else-i-self g c =

@@ -11,7 +11,7 @@ returns-then-i-self g c =
     let f = g .F·Family .vectors (c .args .self .now .family) in
     c .u-product .ensures
     ∙ sym (product-cong (f .dim) _ (at (c .args .row .now)) (f .u (c .args .i)) (at (c .args .row .now))
-    (λ k b. first-u (c .args .self .now .count) f (g .F·Family·met .family (c .args .self .now .family) .told) (c .args .i) (omega arith) k)
+    (λ k b. first-u (c .args .self .now .count) f (g .F·Family·met .matching (c .args .self .now .family) .told) (c .args .i) (omega arith) k)
     (λ k b. refl))
 
 pub returns-else-i-self : need.returns-else-i-self

@@ -1,5 +1,5 @@
 use Rattle.family.proofs.Units.{unit-family}
 use Rattle.family.proofs.unit.UnitFamilyFamily.the-impl.Needs as need
 
-pub family-law : need.family-law
-family-law f = unit-family (f .count) (f .some) (f .few)
+pub matching-law : need.matching-law
+matching-law f = unit-family (f .count) (f .some) (f .few)

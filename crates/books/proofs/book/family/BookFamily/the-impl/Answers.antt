@@ -3,5 +3,5 @@ use Rattle.books.proofs.Accepting.{accepted-none}
 use Rattle.books.proofs.Telling.{book-family}
 use Rattle.books.proofs.book.family.BookFamily.the-impl.Needs as need
 
-pub family-law : need.family-law
-family-law b = book-family (vec-items (b .bytes)) (accepted-none (vec-items (b .bytes)) (b .accepted))
+pub matching-law : need.matching-law
+matching-law b = book-family (vec-items (b .bytes)) (accepted-none (vec-items (b .bytes)) (b .accepted))
