@@ -1,3 +1,4 @@
+pub mod Multiplying
 pub mod Passing
 pub mod RowLaws
 pub mod Stretches

@@ -10,6 +10,7 @@ use Rattle.digits.specs.Elements.{power, times, turned}
 use Rattle.digits.specs.Rows.{at, Digits}
 use Rattle.digits.specs.Sums.{total, same}
 use Rattle.digits.proofs.RowLaws.{at-row}
+use Rattle.digits.proofs.Multiplying.{at-times}
 use Rattle.digits.proofs.Sums.{total-one}
 
 -- the power s of g has a 1 at s modulo 6 and 0 elsewhere
@@ -22,7 +23,7 @@ power-other s i h ne = at-row 6 (λ r. 1 * same (s % 6) r % 6) i h ∙ ap (λ d.
 -- digit r of a power of g times an element is that element's digit so far below r
 pub at-power-times : (s r : ℕ) (x : List ℕ) → r < 6 → at (times (power 1 s) x) r ≡ at x ((r + 6 - s % 6) % 6) % 6
 at-power-times s r x h =
-    at-row 6 (λ q. total 6 (λ i. at (power 1 s) i * at x ((q + 6 - i) % 6)) % 6) r h
+    at-times (power 1 s) x r h
     ∙ total-one 6 (s % 6) (λ i. at (power 1 s) i * at x ((r + 6 - i) % 6)) (omega arith)
     (λ i l ne. ap (λ d. d * at x ((r + 6 - i) % 6) % 6) (power-other s i l ne) ∙ ap (λ d. d % 6) (zero-mul (at x ((r + 6 - i) % 6))))
     ∙ ap (λ d. d * at x ((r + 6 - s % 6) % 6) % 6) (power-own s) ∙ ap (λ d. d % 6) (one-mul (at x ((r + 6 - s % 6) % 6)))

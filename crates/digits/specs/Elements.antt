@@ -1,7 +1,7 @@
 -- Elements: six digits e0 .. e5 that stand for e0 + e1 g + .. + e5 g^5, where g^6 = 1.
 use mathlib.Core.Bool.{Bool, _&&_}
 use mathlib.Core.List.{List}
-use Prim.Native.Nat.{ℕ, _+_, _-_, _*_, _%_}
+use Prim.Native.Nat.{ℕ, _+_, _*_, _%_}
 use lib.Dec.{eqb}
 use Rattle.digits.specs.Rows.{at, row}
 use Rattle.digits.specs.Sums.{total, same}
@@ -18,7 +18,7 @@ plus e f = row 6 (λ r. (at e r + at f r) % 6)
 
 -- digit r of a product: the sum of all e(i) f(j) where i + j leaves r modulo 6
 abbrev pub times : List ℕ → List ℕ → List ℕ
-times e f = row 6 (λ r. total 6 (λ i. at e i * at f ((r + 6 - i) % 6)) % 6)
+times e f = row 6 (λ r. total 6 (λ i. total 6 (λ j. at e i * at f j * same ((i + j) % 6) r)) % 6)
 
 -- every digit times a number
 abbrev pub scaled : ℕ → List ℕ → List ℕ

@@ -3,7 +3,7 @@ ghost use mathlib.Core.Path.{_≡_};
 ghost use Prim.Native.Nat.{ℕ, _+_, _-_, _*_, _%_, _<_};
 ghost use Rattle.digits.specs.Elements.{plus, times, scaled, turned, power};
 ghost use Rattle.digits.specs.Rows.{at};
-ghost use Rattle.digits.specs.Sums.{total};
+ghost use Rattle.digits.specs.Sums.{same, total};
 use crate::element::Element;
 use std::ops::Add;
 use std::ops::Mul;
@@ -45,9 +45,9 @@ pub impl Add<Element> for Element as ElementAdd {
     }
 }
 
-// Digit r of a product: the sum of all a(i) b(j) where i + j leaves r modulo 6.
+// Digit r of a product: the sum of all a(i) b(j) where i + j leaves r modulo 6. To each i there is one such j.
 fn product_digit(a: &Element, b: &Element, r: usize) -> u8
-    ensures { λ d. ⌜ d ≡ total 6 (λ i. at (now (a .entry) .digits) i * at (now (b .entry) .digits) ((r % 6 + 6 - i) % 6)) % 6 ⌝ }
+    ensures { λ d. ⌜ d ≡ total 6 (λ i. total 6 (λ j. at (now (a .entry) .digits) i * at (now (b .entry) .digits) j * same ((i + j) % 6) (r % 6))) % 6 ⌝ }
 {
     let mut sum = 0;
     for i in 0..6 {

@@ -1,7 +1,9 @@
-use mathlib.Core.Path.{sym, ap₂, _∙_}
+use mathlib.Core.Path.{_≡_, sym, ap, ap₂, _∙_}
 use Prim.Native.Nat.{ℕ, _+_, _-_, _*_, _%_, _≤_}
 use native.Mathlib.Omega.{arith}
 use Rattle.digits.specs.Rows.{at}
+use Rattle.digits.specs.Sums.{total}
+use Rattle.digits.proofs.Multiplying.{pairs-single}
 use Rattle.digits.proofs.Sums.{total-start, total-more, digits-product}
 use Rattle.digits.proofs.element.ring.product_digit.Needs as need
 
@@ -24,3 +26,10 @@ loop-i-again c =
       ap₂ (λ s p. s + p) (c .loop-i .inv .0) (ap₂ (λ p q. p * q) (c .from .ensures) (c .from-in-loop-i .ensures)) ∙ sym (total-more (c .loop-i .i) f),
       omega (arith, turn c, c .loop-i .inv .1),
     )
+
+pub returns : need.returns
+returns c =
+    let f : ℕ → ℕ = λ i. at (c .args .a .now .digits) i * at (c .args .b .now .digits) ((c .args .r % 6 + 6 - i) % 6) in
+    let all : c .loop-i .i ≡ 6 = omega arith in
+    ap (λ s. s % 6)
+    (c .loop-i .inv .0 ∙ ap (λ n. total n f) all ∙ sym (pairs-single (c .args .a .now .digits) (c .args .b .now .digits) (c .args .r % 6) (omega arith)))
