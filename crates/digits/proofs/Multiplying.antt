@@ -1,5 +1,5 @@
 -- The product of two elements, digit by digit: to each i there is one j with i + j = r modulo 6.
-use mathlib.Core.Path.{_≡_, refl, sym, ap, _∙_}
+use mathlib.Core.Path.{_≡_, ap, _∙_}
 use mathlib.Core.List.{List}
 use Prim.Native.Nat.{ℕ, _+_, _-_, _*_, _%_, _<_}
 use native.Mathlib.Nat.{mul-one, mul-zero}

@@ -8,7 +8,7 @@ use lib.Dec.{eqb}
 use Rattle.std.proofs.shelf.Tests.{eq-eqb, ne-eqb, cond-true, cond-false}
 use Rattle.digits.specs.Elements.{power, times, turned}
 use Rattle.digits.specs.Rows.{at, Digits}
-use Rattle.digits.specs.Sums.{total, same}
+use Rattle.digits.specs.Sums.{same}
 use Rattle.digits.proofs.RowLaws.{at-row}
 use Rattle.digits.proofs.Multiplying.{at-times}
 use Rattle.digits.proofs.Sums.{total-one}
