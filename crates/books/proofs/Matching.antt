@@ -1,7 +1,7 @@
 -- No pair is bad exactly where the vectors are a matching family.
 use mathlib.Core.Bool.{true, false}
 use mathlib.Core.Logic.{inl, inr}
-use mathlib.Core.Path.{_≡_, sym, ap, subst, _∙_}
+use mathlib.Core.Path.{_≡_, refl, sym, ap, subst, _∙_}
 use Prim.Native.Nat.{ℕ, _<_, _≤_}
 use native.Mathlib.Omega.{arith}
 use lib.Dec.{eqb}
@@ -10,10 +10,10 @@ use Rattle.std.specs.declared.option.Option.the-variants.{None, Some}
 use Rattle.std.specs.Iters.{counting}
 use Rattle.std.proofs.shelf.Counted.{length-counting}
 use Rattle.std.proofs.shelf.Sums.{leading-le-length}
-use Rattle.std.proofs.shelf.Tests.{cases-eq, cases-cond, cond-true, cond-false, eq-eqb, ne-eqb, eqb-true, eqb-false, both-ways}
-use Rattle.std.proofs.shelf.Ways.{tells}
-use Rattle.family.specs.Vectors.{Vectors, Matches, Apart, pairing}
-use Rattle.books.specs.Pairs.{allowed, fits, Keeps, First-unmatched, bad-partner, bad-position, bad-pair}
+use Rattle.std.proofs.shelf.Tests.{cases-cond, cond-true, cond-false, eq-eqb, ne-eqb, eqb-true, eqb-false, both-ways}
+use Rattle.family.specs.Vectors.{Vectors, Matches, pairing}
+use Rattle.family.proofs.Allowing.{allowed-from, allowed-passes}
+use Rattle.books.specs.Pairs.{fits, Keeps, First-unmatched, bad-partner, bad-position, bad-pair}
 use Rattle.books.proofs.Firsts.{first-is, passes, fails}
 use Rattle.digits.proofs.Passing.{passed, some≢none}
 
@@ -49,43 +49,16 @@ bad-pair-below f i j e =
           (omega (arith, ap (λ p. p .0) same), omega (arith, ap (λ p. p .1) same))
     ]
 
--- the rule for one product, both ways
-allowed-alike : (i product : ℕ) → allowed i i product ≡ true → product ≡ 0
-allowed-alike i product e = grind (arith, tells)
-
-allowed-apart : (i j product : ℕ) → (i ≡ j → ⊥) → allowed i j product ≡ true → Apart product
-allowed-apart i j product ne e = grind (arith, tells)
-
-alike-allowed : (i j product : ℕ) → i ≡ j → product ≡ 0 → allowed i j product ≡ true
-alike-allowed i j product e h = grind (arith, tells)
-
-apart-allowed : (i j product : ℕ) → (i ≡ j → ⊥) → Apart product → allowed i j product ≡ true
-apart-allowed i j product ne h = grind (arith, tells)
-
 module _ (f : Vectors) where
   matches-from : ((i j : ℕ) → i < f .count → j < f .count → fits f i j ≡ true) → Matches f
   matches-from all =
       record {
-        alike = λ i h. allowed-alike i (pairing f i i) (all i i h h);
-        apart = λ i j h k ne. allowed-apart i j (pairing f i j) ne (all i j h k);
+        alike = λ i h. allowed-from i i (pairing f i i) (all i i h h) .0 refl;
+        apart = λ i j h k ne. allowed-from i j (pairing f i j) (all i j h k) .1 ne;
       }
 
-  -- a pair fits exactly where it keeps the rule
-  keeps-fits : (i j : ℕ) → Keeps f i j → fits f i j ≡ true
-  keeps-fits i j keeps =
-      elim (cases-eq i j) [
-        | inl e ↦ alike-allowed i j (pairing f i j) e (keeps .0 e)
-        | inr ne ↦ apart-allowed i j (pairing f i j) ne (keeps .1 ne)
-      ]
-
-  fits-keeps : (i j : ℕ) → fits f i j ≡ true → Keeps f i j
-  fits-keeps i j e = (
-    (λ same. allowed-alike i (pairing f i j) (subst (λ x. allowed i x (pairing f i j) ≡ true) (sym same) e)),
-    (λ ne. allowed-apart i j (pairing f i j) ne e),
-  )
-
   fits-from : Matches f → (i j : ℕ) → i < f .count → j < f .count → fits f i j ≡ true
-  fits-from m i j h k = keeps-fits i j ((λ e. subst (λ x. pairing f i x ≡ 0) e (m .alike i h)), (λ ne. m .apart i j h k ne))
+  fits-from m i j h k = allowed-passes i j (pairing f i j) ((λ e. subst (λ x. pairing f i x ≡ 0) e (m .alike i h)), (λ ne. m .apart i j h k ne))
 
   pub matches-if-none : bad-pair f ≡ None → Matches f
   unfolding bad-partner bad-position
@@ -113,8 +86,8 @@ module _ (f : Vectors) where
       let most : j ≤ f .count = omega (arith, leading-le-length (fits f i) (counting 0 (f .count)), length-counting 0 (f .count)) in
       let misfit : fits f i j ≡ false = ap (fits f i) is ∙ fails (fits f i) (f .count) (omega arith) in (
         omega arith,
-        (λ keeps. both-ways (fits f i j) misfit (keeps-fits i j keeps)),
-        (λ b l. fits-keeps i b (passes (fits f i) (f .count) b (omega arith))),
+        (λ keeps. both-ways (fits f i j) misfit (allowed-passes i j (pairing f i j) keeps)),
+        (λ b l. allowed-from i b (pairing f i b) (passes (fits f i) (f .count) b (omega arith))),
       )
 
   first-at : (i j : ℕ) → i ≡ bad-position f → j ≡ bad-partner f (bad-position f) → (bad-position f ≡ f .count → ⊥) → First-unmatched f i j
@@ -133,7 +106,7 @@ module _ (f : Vectors) where
             elim earlier [
               | inl l ↦
                   let whole = eqb-true (bad-partner f a) (f .count) (passes (λ k. eqb (bad-partner f k) (f .count)) (f .count) a (omega arith)) in
-                  fits-keeps a b (passes (fits f a) (f .count) b (omega arith))
+                  allowed-from a b (pairing f a b) (passes (fits f a) (f .count) b (omega arith))
               | inr l ↦ subst (λ x. Keeps f x b) (sym (l .0)) (row .2 b (l .1))
             ];
       }

@@ -2,20 +2,21 @@
 use mathlib.Core.Bool.{cond, false}
 use mathlib.Core.List.{List}
 use mathlib.Core.Logic.{inl, inr}
-use mathlib.Core.Path.{_≡_, sym, ap, _∙_}
-use Prim.Native.Nat.{ℕ, _+_, _*_, _%_, _<_, _≤_}
-use native.Mathlib.Nat.{add-assoc, zero-mul}
+use mathlib.Core.Path.{_≡_, refl, sym, ap, _∙_}
+use Prim.Native.Nat.{ℕ, _+_, _*_, _<_, _≤_}
+use native.Mathlib.Nat.{add-assoc}
 use native.Mathlib.Omega.{arith}
 use lib.Dec.{ltb}
 use lib.ListN.{length, take, drop}
 use Rattle.std.specs.Options.{isSome}
 use Rattle.std.specs.declared.option.Option.the-variants.{None}
 use Rattle.std.proofs.shelf.Bits.{mul-add-lt}
-use Rattle.std.proofs.shelf.Lists.{getD-take, getD-drop, getD-past}
+use Rattle.std.proofs.shelf.Lists.{getD-past}
 use Rattle.std.proofs.shelf.Tests.{cases-lt, lt-ltb, le-ltb, cond-true, cond-false}
 use Rattle.digits.specs.Rows.{at, Digits}
 use Rattle.digits.specs.Sums.{product}
-use Rattle.digits.proofs.Sums.{total-cong, total-none, product-none}
+use Rattle.digits.proofs.Stretches.{at-stretch}
+use Rattle.digits.proofs.Sums.{product-cong, product-none, product-zero}
 use Rattle.family.specs.Vectors.{MatchingFamily}
 use Rattle.family.proofs.Within.{told-within, within-past-count, within-past-dim}
 use Rattle.books.specs.BookVectors.{digit-from, book-vectors}
@@ -33,7 +34,7 @@ section-digit bs start digits i c h l =
     let inside = mul-add-lt i (dimension-of bs) c (count-of bs) h l in
     let there =
     ap (at bs) (add-assoc start (i * dimension-of bs) c)
-    ∙ sym (getD-take (size-of bs) (drop start bs) place 0 (omega arith) ∙ getD-drop start bs place 0) in
+    ∙ sym (at-stretch start (size-of bs) place bs (omega arith)) in
     omega (arith, there, digits place)
 
 pub book-family : (bs : List ℕ) → book-fault bs ≡ None → MatchingFamily (book-vectors bs)
@@ -64,10 +65,10 @@ module _ (bs : List ℕ) (start n k i : ℕ) (counted : n ≡ count-of bs) (wide
       elim (cases-lt i n) [
         | inl h ↦
             ap (λ m. product m (at x) y) (long ∙ cond-true _ _ _ (lt-ltb i n h) ∙ wide)
-            ∙ ap (λ t. t % 6) (total-cong (dimension-of bs) _ _ (λ c l. ap (λ d. d * y c) (digits c)))
+            ∙ product-cong (dimension-of bs) (at x) y (digit-from start bs i) y (λ c l. digits c) (λ c l. refl)
         | inr past ↦
             ap (λ m. product m (at x) y) (long ∙ cond-false _ _ _ (le-ltb i n past)) ∙ product-none (at x) y
-            ∙ sym (ap (λ t. t % 6) (total-none (dimension-of bs) _ (λ c l. ap (λ d. d * y c) (within-past-count (count-of bs) (dimension-of bs) (λ m d. at bs (start + m * dimension-of bs + d)) i c (omega arith)) ∙ zero-mul (y c))))
+            ∙ sym (product-zero (dimension-of bs) (digit-from start bs i) y (λ c l. within-past-count (count-of bs) (dimension-of bs) (λ m d. at bs (start + m * dimension-of bs + d)) i c (omega arith)))
       ]
 
 -- an accepted book's length and limits, by the numbers that the code holds

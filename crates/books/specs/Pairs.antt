@@ -1,5 +1,5 @@
 -- The pairs of positions in the order in which they are tried, and the first that breaks the matching rule.
-use mathlib.Core.Bool.{Bool, cond, _||_}
+use mathlib.Core.Bool.{Bool, cond}
 use mathlib.Core.Logic.{_⊎_}
 use mathlib.Core.Path.{_≡_}
 use Prim.Native.Nat.{ℕ, _+_, _*_, _<_}
@@ -11,18 +11,14 @@ use Rattle.std.specs.declared.option.Option.{Option}
 use Rattle.std.specs.declared.option.Option.the-variants.{None, Some}
 use Rattle.faults.specs.declared.Fault.{Fault}
 use Rattle.faults.specs.Faults.{unmatched-fault}
-use Rattle.family.specs.Vectors.{Vectors, Apart, pairing}
+use Rattle.family.specs.Vectors.{Vectors, allowed, Allowed, pairing}
 
--- whether a product is one that the matching rule allows at positions i and j
-abbrev pub allowed : ℕ → ℕ → ℕ → Bool
-allowed i j product = cond (eqb i j) (eqb product 0) (eqb product 1 || (eqb product 3 || eqb product 4))
-
+-- whether a pair of positions keeps the matching rule
 abbrev pub fits : Vectors → ℕ → ℕ → Bool
 fits f i j = allowed i j (pairing f i j)
 
--- the matching rule for one pair
 abbrev pub Keeps : Vectors → ℕ → ℕ → Type 0
-Keeps f i j = (i ≡ j → pairing f i j ≡ 0) × ((i ≡ j → ⊥) → Apart (pairing f i j))
+Keeps f i j = Allowed i j (pairing f i j)
 
 -- a pair that breaks the rule, where each pair before it, by i and then by j, keeps it
 pub record First-unmatched (f : Vectors) (i j : ℕ) : Type 0 where

@@ -4,13 +4,11 @@ use mathlib.Core.List.{List}
 use Prim.Native.Nat.{ℕ, _+_, _-_, _*_, _%_, _<_}
 use native.Mathlib.Nat.{mul-one, mul-zero}
 use native.Mathlib.Omega.{arith}
-use lib.Dec.{eqb}
-use Rattle.std.proofs.shelf.Tests.{eq-eqb, ne-eqb, cond-true, cond-false}
 use Rattle.digits.specs.Elements.{times}
 use Rattle.digits.specs.Rows.{at}
 use Rattle.digits.specs.Sums.{total, same}
 use Rattle.digits.proofs.RowLaws.{at-row}
-use Rattle.digits.proofs.Sums.{total-cong, total-only}
+use Rattle.digits.proofs.Sums.{total-cong, total-only, same-yes, same-no}
 
 -- what digit i of the first factor adds to digit r: it meets the one j that is r less i
 partner : (a : ℕ) (f : List ℕ) (r i : ℕ) → r < 6 → i < 6 → total 6 (λ j. a * at f j * same ((i + j) % 6) r) ≡ a * at f ((r + 6 - i) % 6)
@@ -19,9 +17,9 @@ partner a f r i hr hi =
     let meets : (i + t) % 6 ≡ r = omega arith in
     total-only 6 t (λ j. a * at f j * same ((i + j) % 6) r) (omega arith)
     (λ j l ne.
-    let apart : same ((i + j) % 6) r ≡ 0 = cond-false (eqb ((i + j) % 6) r) 1 0 (ne-eqb ((i + j) % 6) r (λ e. ne (omega arith))) in
+    let apart : same ((i + j) % 6) r ≡ 0 = same-no ((i + j) % 6) r (λ e. ne (omega arith)) in
     ap (λ d. a * at f j * d) apart ∙ mul-zero (a * at f j))
-    ∙ ap (λ d. a * at f t * d) (cond-true (eqb ((i + t) % 6) r) 1 0 (eq-eqb ((i + t) % 6) r meets)) ∙ mul-one (a * at f t)
+    ∙ ap (λ d. a * at f t * d) (same-yes ((i + t) % 6) r meets) ∙ mul-one (a * at f t)
 
 -- so the sum over all pairs is a sum over the digits of the first factor
 pub pairs-single : (e f : List ℕ) (r : ℕ) → r < 6 →

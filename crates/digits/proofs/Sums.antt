@@ -1,74 +1,23 @@
--- Laws of `total`, exact and modulo 6.
+-- Laws of `total`, of products of vectors and of `same`.
 use mathlib.Core.Path.{_≡_, refl, sym, ap, ap₂, _∙_}
 use mathlib.Core.Logic.{inl, inr}
-use Prim.Native.Nat.{ℕ, zero, suc, _+_, _*_, _/_, _%_, _<_, _≤_}
+use Prim.Native.Nat.{ℕ, zero, suc, _+_, _*_, _%_, _<_, _≤_}
 use native.Mathlib.Numerals.{add-one}
-use native.Mathlib.Nat.{add-suc, add-assoc, zero-mul, suc-mul, add-mod, add-zero, zero-add, mul-zero, mul-add, mul-le-mul, mod-add-div, mul-left-comm, add-mul-mod-self-left, not-suc-le-zero}
+use native.Mathlib.Nat.{add-suc, add-assoc, zero-mul, add-zero, zero-add, mul-le-mul, not-suc-le-zero}
 use native.Mathlib.Omega.{arith}
-use Rattle.std.proofs.shelf.Tests.{cases-eq}
-use Rattle.digits.specs.Sums.{total, product}
+use lib.Dec.{eqb}
+use Rattle.std.proofs.shelf.Tests.{cases-eq, eq-eqb, ne-eqb, cond-true, cond-false}
+use Rattle.digits.specs.Sums.{total, product, same}
 
 pub total-cong : (n : ℕ) (f g : ℕ → ℕ) → ((i : ℕ) → i < n → f i ≡ g i) → total n f ≡ total n g
 unfolding total
 total-cong zero f g h = refl
 total-cong (suc n) f g h = ap₂ (λ a b. a + b) (total-cong n f g (λ i l. h i (omega arith))) (h n (omega arith))
 
--- equal modulo 6 at each place
-pub total-mod : (n : ℕ) (f g : ℕ → ℕ) → ((i : ℕ) → i < n → f i % 6 ≡ g i % 6) → total n f % 6 ≡ total n g % 6
-unfolding total
-total-mod zero f g h = refl
-total-mod (suc n) f g h =
-    add-mod (total n f) (f n) 6
-    ∙ ap₂ (λ a b. (a + b) % 6) (total-mod n f g (λ i l. h i (omega arith))) (h n (omega arith))
-    ∙ sym (add-mod (total n g) (g n) 6)
-
 pub total-zero : (n : ℕ) → total n (λ i. 0) ≡ 0
 unfolding total
 total-zero zero = refl
 total-zero (suc n) = ap (λ a. a + 0) (total-zero n)
-
-pub total-add : (n : ℕ) (f g : ℕ → ℕ) → total n (λ i. f i + g i) ≡ total n f + total n g
-unfolding total
-total-add zero f g = refl
-total-add (suc n) f g = let h = total-add n f g in omega arith
-
-pub total-scale : (n c : ℕ) (f : ℕ → ℕ) → total n (λ i. c * f i) ≡ c * total n f
-unfolding total
-total-scale zero c f = sym (mul-zero c)
-total-scale (suc n) c f = ap (λ a. a + c * f n) (total-scale n c f) ∙ sym (mul-add c (total n f) (f n))
-
-pub total-swap : (n m : ℕ) (f : ℕ → ℕ → ℕ) → total n (λ i. total m (λ j. f i j)) ≡ total m (λ j. total n (λ i. f i j))
-unfolding total
-total-swap zero m f = sym (total-zero m)
-total-swap (suc n) m f =
-    ap (λ a. a + total m (λ j. f n j)) (total-swap n m f)
-    ∙ sym (total-add m (λ j. total n (λ i. f i j)) (λ j. f n j))
-
--- a product modulo 6 with one side reduced
-pub mul-mod : (a b : ℕ) → a * (b % 6) % 6 ≡ a * b % 6
-mul-mod a b =
-    sym (ap (λ x. a * x % 6) (sym (mod-add-div b 6))
-    ∙ ap (λ x. x % 6) (mul-add a (b % 6) (6 * (b / 6)) ∙ ap (λ x. a * (b % 6) + x) (mul-left-comm a 6 (b / 6)))
-    ∙ add-mul-mod-self-left (a * (b % 6)) 6 (a * (b / 6)))
-
-pub mul-same : (a b c : ℕ) → b % 6 ≡ c % 6 → a * b % 6 ≡ a * c % 6
-mul-same a b c h = sym (mul-mod a b) ∙ ap (λ x. a * x % 6) h ∙ mul-mod a c
-
-pub add-same : (a b c d : ℕ) → a % 6 ≡ c % 6 → b % 6 ≡ d % 6 → (a + b) % 6 ≡ (c + d) % 6
-add-same a b c d h k = add-mod a b 6 ∙ ap₂ (λ x y. (x + y) % 6) h k ∙ sym (add-mod c d 6)
-
-pub total-nil : (n : ℕ) (f : ℕ → ℕ) → ((i : ℕ) → i < n → f i % 6 ≡ 0) → total n f % 6 ≡ 0
-total-nil n f h = total-mod n f (λ i. 0) (λ i l. h i l) ∙ ap (λ x. x % 6) (total-zero n)
-
--- a sum of which one term is left
-pub total-one : (n t : ℕ) (f : ℕ → ℕ) → t < n → ((i : ℕ) → i < n → (i ≡ t → ⊥) → f i % 6 ≡ 0) → total n f % 6 ≡ f t % 6
-unfolding total
-total-one zero t f l h = absurd (not-suc-le-zero l)
-total-one (suc n) t f l h =
-    elim (cases-eq t n) [
-      | inl e ↦ add-same (total n f) (f n) 0 (f t) (total-nil n f (λ i b. h i (omega arith) (omega arith))) (ap (λ x. f x % 6) (sym e)) ∙ ap (λ x. x % 6) (zero-add (f t))
-      | inr e ↦ add-same (total n f) (f n) (f t) 0 (total-one n t f (omega arith) (λ i b k. h i (omega arith) k)) (h n (omega arith) (omega arith)) ∙ ap (λ x. x % 6) (add-zero (f t))
-    ]
 
 -- no term: the start of a loop that sums
 pub total-start : (f : ℕ → ℕ) → total 0 f ≡ 0
@@ -102,12 +51,6 @@ total-only (suc n) t f l h =
       | inr e ↦ ap (λ a. total n f + a) (h n (omega arith) (omega arith)) ∙ add-zero (total n f) ∙ total-only n t f (omega arith) (λ i b k. h i (omega arith) k)
     ]
 
--- a bound on each term bounds the sum
-pub total-le : (n m : ℕ) (f : ℕ → ℕ) → ((i : ℕ) → i < n → f i ≤ m) → total n f ≤ n * m
-unfolding total
-total-le zero m f h = omega (arith, zero-mul m)
-total-le (suc n) m f h = omega (arith, suc-mul n m, total-le n m f (λ i b. h i (omega arith)), h n (omega arith))
-
 -- one coordinate more: the step of a loop that multiplies two vectors
 pub product-more : (k : ℕ) (x y : ℕ → ℕ) (s a b : ℕ) → s ≡ product k x y → a ≡ x k → b ≡ y k → (s + a * b) % 6 ≡ product (k + 1) x y
 product-more k x y s a b hs ha hb =
@@ -131,10 +74,6 @@ pub product-only : (k t : ℕ) (x y : ℕ → ℕ) → t < k → ((c : ℕ) → 
 product-only k t x y l h =
     ap (λ s. s % 6) (total-only k t (λ c. x c * y c) l (λ c b n. ap (λ p. p * y c) (h c b n) ∙ zero-mul (y c)))
 
--- a stretch of coordinates more
-pub product-append : (m n : ℕ) (x y : ℕ → ℕ) (s t : ℕ) → s ≡ product m x y → t ≡ total n (λ c. x (m + c) * y (m + c)) → (s + t) % 6 ≡ product (m + n) x y
-product-append m n x y s t hs ht = let more = total-append m n (λ c. x c * y c) in omega arith
-
 -- coordinates at which one vector is 0 count for nothing
 pub product-past : (m n : ℕ) (x y : ℕ → ℕ) → ((c : ℕ) → x (m + c) * y (m + c) ≡ 0) → product (m + n) x y ≡ product m x y
 product-past m n x y h =
@@ -148,3 +87,10 @@ bytes-product a b ha hb = mul-le-mul {n₁ = a} {m₁ = b} {n₂ = 255} {m₂ = 
 
 pub digits-product : (a b : ℕ) → a < 6 → b < 6 → a * b ≤ 25
 digits-product a b ha hb = mul-le-mul {n₁ = a} {m₁ = b} {n₂ = 5} {m₂ = 5} (omega arith) (omega arith)
+
+-- the test of two numbers as a digit
+pub same-yes : (a b : ℕ) → a ≡ b → same a b ≡ 1
+same-yes a b e = cond-true (eqb a b) 1 0 (eq-eqb a b e)
+
+pub same-no : (a b : ℕ) → (a ≡ b → ⊥) → same a b ≡ 0
+same-no a b e = cond-false (eqb a b) 1 0 (ne-eqb a b e)

@@ -29,7 +29,7 @@ abbrev pub turned : ℕ → List ℕ → List ℕ
 turned s e = row 6 (λ r. at e ((r + s) % 6))
 
 -- whether two elements have the same six digits
-abbrev pub alike : List ℕ → List ℕ → Bool
-alike e f =
+abbrev pub same-element : List ℕ → List ℕ → Bool
+same-element e f =
     eqb (at e 0) (at f 0)
     && (eqb (at e 1) (at f 1) && (eqb (at e 2) (at f 2) && (eqb (at e 3) (at f 3) && (eqb (at e 4) (at f 4) && eqb (at e 5) (at f 5)))))

@@ -1,3 +1,4 @@
+pub mod Allowing
 pub mod FirstParts
 pub mod Spreads
 pub mod Units

@@ -12,7 +12,7 @@ use Rattle.std.proofs.shelf.Lists.{length-set}
 use Rattle.std.proofs.shelf.Tests.{eq-eqb, ne-eqb, cond-true, cond-false, cond-both}
 use Rattle.digits.specs.Rows.{at}
 use Rattle.digits.specs.Sums.{product, same}
-use Rattle.digits.proofs.Sums.{product-only}
+use Rattle.digits.proofs.Sums.{product-only, same-yes, same-no}
 use Rattle.family.specs.Spread.{spread}
 use Rattle.family.specs.Units.{unit-vectors}
 use Rattle.family.specs.Vectors.{MatchingFamily, Matches}
@@ -21,10 +21,10 @@ use Rattle.family.proofs.Within.{within-in, within-past-dim, told-within}
 
 module _ (n i : ℕ) (inside : i < n) where
   pub u-own : unit-vectors n .u i i ≡ 1
-  u-own = within-in n n same i i inside inside ∙ cond-true (eqb i i) 1 0 (eq-eqb i i (omega arith))
+  u-own = within-in n n same i i inside inside ∙ same-yes i i refl
 
   pub u-other : (c : ℕ) → c < n → (c ≡ i → ⊥) → unit-vectors n .u i c ≡ 0
-  u-other c b ne = within-in n n same i c inside b ∙ cond-false (eqb i c) 1 0 (ne-eqb i c (λ e. ne (sym e)))
+  u-other c b ne = within-in n n same i c inside b ∙ same-no i c (λ e. ne (sym e))
 
   -- the product of u(i) with any vector is that vector's digit at coordinate i
   pub unit-product : (y : ℕ → ℕ) → product n (unit-vectors n .u i) y ≡ y i % 6

@@ -1,9 +1,9 @@
 -- A family of vectors, as promises speak of it, and when it is a matching family.
 use mathlib.Core.Path.{_≡_}
 use mathlib.Core.Logic.{_⊎_}
-use mathlib.Core.Bool.{cond, _&&_}
+use mathlib.Core.Bool.{Bool, cond, _&&_, _||_}
 use Prim.Native.Nat.{ℕ, _<_, _≤_}
-use lib.Dec.{ltb}
+use lib.Dec.{eqb, ltb}
 use Rattle.digits.specs.Sums.{product}
 
 -- a count of positions, a dimension, and digit c of the vectors u(i) and v(i)
@@ -23,6 +23,13 @@ pairing f i j = product (f .dim) (f .u i) (f .v j)
 
 abbrev pub Apart : ℕ → Type 0
 Apart r = (r ≡ 1) ⊎ (r ≡ 3) ⊎ (r ≡ 4)
+
+-- whether a product is one that the matching rule allows at positions i and j, as a test and as a fact
+abbrev pub allowed : ℕ → ℕ → ℕ → Bool
+allowed i j r = cond (eqb i j) (eqb r 0) (eqb r 1 || (eqb r 3 || eqb r 4))
+
+abbrev pub Allowed : ℕ → ℕ → ℕ → Type 0
+Allowed i j r = (i ≡ j → r ≡ 0) × ((i ≡ j → ⊥) → Apart r)
 
 -- the matching rule: u(i) times v(i) is 0, and u(i) times v(j) is 1, 3 or 4 for all i other than j
 pub record Matches (f : Vectors) : Type 0 where

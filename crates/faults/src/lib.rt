@@ -8,7 +8,7 @@ pub use display::CauseDisplay;
 pub use display::LayerDisplay;
 
 // The part of the engine that a refusal speaks for.
-#[derive(Clone, Copy, PartialEq, Eq, Debug)]
+#[derive(Clone, Copy, PartialEq, Eq)]
 pub enum Layer {
     Element,
     Family,
@@ -17,7 +17,7 @@ pub enum Layer {
 }
 
 // Why a call was refused, with what the refusal names.
-#[derive(Clone, Copy, PartialEq, Eq, Debug)]
+#[derive(Clone, Copy, PartialEq, Eq)]
 pub enum Cause {
     // a row has another length than it must: the length found
     Length(usize),
@@ -40,7 +40,7 @@ pub enum Cause {
 }
 
 // A refusal: the layer that it speaks for, and its cause.
-#[derive(Clone, Copy, PartialEq, Eq, Debug)]
+#[derive(Clone, Copy, PartialEq, Eq)]
 pub struct Fault {
     pub layer: Layer,
     pub cause: Cause,

@@ -39,21 +39,21 @@ sum-by-size weight f ps sizes =
         ∙ sumBy-scale (weight s) f (choose s ps)
 
 -- 1 where two words agree at each of some places, else 0
-abbrev alike : ℕ → (ℕ → ℕ) → (ℕ → ℕ) → List ℕ → ℕ
-alike q word other places = same (reading q word places) (reading q other places)
+abbrev agree-on : ℕ → (ℕ → ℕ) → (ℕ → ℕ) → List ℕ → ℕ
+agree-on q word other places = same (reading q word places) (reading q other places)
 
 module _ (q : ℕ) (word other : ℕ → ℕ) (low : (p : ℕ) → word p < q) (low′ : (p : ℕ) → other p < q) where
   -- of the sets of s places, two words agree throughout at binomial m s, where m is the number of places where they agree
-  pub agreeing-sets : (s : ℕ) (ps : List ℕ) → sumBy (alike q word other) (choose s ps) ≡ binomial (agreements word other ps) s
+  pub agreeing-sets : (s : ℕ) (ps : List ℕ) → sumBy (agree-on q word other) (choose s ps) ≡ binomial (agreements word other ps) s
   unfolding choose binomial
   agreeing-sets zero ps = refl
   agreeing-sets (suc s) [] = refl
   agreeing-sets (suc s) (p ∷ ps) =
-      sumBy-append (alike q word other) (map (λ places. p ∷ places) (choose s ps)) (choose (suc s) ps)
+      sumBy-append (agree-on q word other) (map (λ places. p ∷ places) (choose s ps)) (choose (suc s) ps)
       ∙ ap₂ (λ a b. a + b)
-      (sumBy-map (alike q word other) (λ places. p ∷ places) (choose s ps)
+      (sumBy-map (agree-on q word other) (λ places. p ∷ places) (choose s ps)
       ∙ sumBy-same _ _ (same-reading q word other low low′ p) (choose s ps)
-      ∙ sumBy-scale (same (word p) (other p)) (alike q word other) (choose s ps)
+      ∙ sumBy-scale (same (word p) (other p)) (agree-on q word other) (choose s ps)
       ∙ ap (λ a. same (word p) (other p) * a) (agreeing-sets s ps))
       (agreeing-sets (suc s) ps)
       ∙ sym (pascal (eqb (word p) (other p)) (agreements word other ps) s)

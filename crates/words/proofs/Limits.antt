@@ -21,7 +21,8 @@ use Rattle.words.proofs.Binomials.{binomial-none, binomial-one, binomial-two}
 use Rattle.words.proofs.Choosing.{choose-sizes, sum-by-size, agreeing-sets}
 use Rattle.words.proofs.EachBelow.{each-below, from-each}
 use Rattle.words.proofs.ListSums.{sumBy-cong, sumBy-same, sumBy-scale}
-use Rattle.words.proofs.Readings.{same-yes, agree-self}
+use Rattle.digits.proofs.Sums.{same-yes}
+use Rattle.words.proofs.Readings.{agree-self}
 
 pub count-few : (h q : ℕ) → 2 ≤ q → h ≤ 5 → q ≤ 16 → q ^ h ≤ 1048576
 count-few h q some short few = le-trans (pow-le-pow-left few h) (pow-le-pow-right {n = 16} (omega arith) short)

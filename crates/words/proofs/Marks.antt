@@ -10,10 +10,10 @@ use Rattle.std.specs.shelf.Lists.{sumBy}
 use Rattle.std.proofs.shelf.Sums.{sumBy-cons}
 use Rattle.std.proofs.shelf.Tests.{cases-lt, cases-eq, lt-ltb, le-ltb, cond-true, cond-false}
 use Rattle.digits.specs.Sums.{total, same}
-use Rattle.digits.proofs.Sums.{total-append, total-cong, total-only}
+use Rattle.digits.proofs.Sums.{total-append, total-cong, total-only, same-yes, same-no}
 use Rattle.words.specs.Marks.{reading, block, width, mark}
 use Rattle.words.specs.Own.{own-from}
-use Rattle.words.proofs.Readings.{same-yes, same-no, reading-lt}
+use Rattle.words.proofs.Readings.{reading-lt}
 
 module _ (q : ℕ) (weight word : ℕ → ℕ) (places : List ℕ) (sets : List (List ℕ)) where
   -- in the first block

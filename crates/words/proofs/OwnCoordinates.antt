@@ -10,12 +10,12 @@ use Rattle.std.proofs.shelf.Sums.{sumBy-cons}
 use Rattle.std.proofs.shelf.Tests.{cases-lt, cases-order}
 use Rattle.digits.specs.Rows.{at}
 use Rattle.digits.specs.Sums.{total, same}
-use Rattle.digits.proofs.Sums.{total-only, total-none}
+use Rattle.digits.proofs.Sums.{total-only, total-none, same-yes, same-no}
 use Rattle.words.specs.Marks.{block, width, mark}
 use Rattle.words.specs.Own.{own-from}
 use Rattle.words.proofs.ListSums.{sumBy-total}
 use Rattle.words.proofs.Marks.{own-sum, mark-past}
-use Rattle.words.proofs.Readings.{same-yes, same-no, reading-lt}
+use Rattle.words.proofs.Readings.{reading-lt}
 
 pub length-own : (q : ℕ) (word : ℕ → ℕ) (start : ℕ) (sets : List (List ℕ)) → length (own-from q word start sets) ≡ length sets
 unfolding own-from

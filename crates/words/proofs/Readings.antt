@@ -13,17 +13,12 @@ use Rattle.std.specs.shelf.Digits.{number, numberAfter, Under}
 use Rattle.std.proofs.shelf.Digits.{number-lt}
 use Rattle.std.proofs.shelf.Lists.{length-map}
 use Rattle.std.proofs.shelf.Sums.{sumBy-cons, countBy-le-length}
-use Rattle.std.proofs.shelf.Tests.{cases-eq, eq-eqb, ne-eqb, cond-true, cond-false}
+use Rattle.std.proofs.shelf.Tests.{cases-eq}
 use Rattle.digits.specs.Sums.{same}
+use Rattle.digits.proofs.Sums.{same-yes, same-no}
 use Rattle.words.specs.Agreement.{agreements}
 use Rattle.words.specs.Marks.{reading, block}
 use Rattle.words.specs.Words.{letter}
-
-pub same-yes : (a b : ℕ) → a ≡ b → same a b ≡ 1
-same-yes a b e = cond-true (eqb a b) 1 0 (eq-eqb a b e)
-
-pub same-no : (a b : ℕ) → (a ≡ b → ⊥) → same a b ≡ 0
-same-no a b e = cond-false (eqb a b) 1 0 (ne-eqb a b e)
 
 -- two digits with the same weight are equal where the numbers are
 same-digits : (n a b r s : ℕ) → r < n → s < n → same (a * n + r) (b * n + s) ≡ same a b * same r s

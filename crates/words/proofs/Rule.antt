@@ -1,39 +1,28 @@
 -- Which product goes with which number of agreements: one computed test over all of them.
-use mathlib.Core.Path.{_≡_, refl, sym, _∙_}
-use mathlib.Core.Bool.{Bool, true, cond, _||_}
-use mathlib.Core.Logic.{inl, inr}
+use mathlib.Core.Path.{_≡_, refl}
+use mathlib.Core.Bool.{Bool, true}
 use Prim.Native.Nat.{ℕ, _+_, _<_, _≤_}
 use native.Mathlib.Omega.{arith}
-use lib.Dec.{eqb}
-use Rattle.std.proofs.shelf.Tests.{eq-eqb, ne-eqb, eqb-true, cond-true, cond-false, or-cases}
-use Rattle.family.specs.Vectors.{Apart}
+use Rattle.family.specs.Vectors.{Apart, allowed, Allowed}
+use Rattle.family.proofs.Allowing.{allowed-from}
 use Rattle.words.specs.Agreement.{binomial, by-agreement}
 use Rattle.words.proofs.EachBelow.{each-below, from-each}
 
 abbrev fits : ℕ → ℕ → Bool
-fits h m =
-    cond (eqb m h) (eqb (by-agreement h m) 0) (eqb (by-agreement h m) 1 || (eqb (by-agreement h m) 3 || eqb (by-agreement h m) 4))
+fits h m = allowed m h (by-agreement h m)
 
 all-fit : each-below (λ h. each-below (fits h) (h + 1)) 6 ≡ true
 unfolding binomial
 all-fit = refl
 
-fit : (h m : ℕ) → h ≤ 5 → m ≤ h → fits h m ≡ true
-fit h m short l = from-each (fits h) (h + 1) (from-each (λ h. each-below (fits h) (h + 1)) 6 all-fit h (omega arith)) m (omega arith)
+-- words of h letters that agree at m places are allowed their product, as if h and m were their positions
+agreed : (h m : ℕ) → h ≤ 5 → m ≤ h → Allowed m h (by-agreement h m)
+agreed h m short l =
+    allowed-from m h (by-agreement h m)
+    (from-each (fits h) (h + 1) (from-each (λ h. each-below (fits h) (h + 1)) 6 all-fit h (omega arith)) m (omega arith))
 
 pub agree-wholly : (h : ℕ) → h ≤ 5 → by-agreement h h ≡ 0
-agree-wholly h short =
-    eqb-true (by-agreement h h) 0 (sym (cond-true (eqb h h) _ _ (eq-eqb h h refl)) ∙ fit h h short (omega arith))
+agree-wholly h short = agreed h h short (omega arith) .0 refl
 
 pub agree-partly : (h m : ℕ) → h ≤ 5 → m < h → Apart (by-agreement h m)
-agree-partly h m short l =
-    let r : ℕ = by-agreement h m in
-    let one-of : (eqb r 1 || (eqb r 3 || eqb r 4)) ≡ true = sym (cond-false (eqb m h) _ _ (ne-eqb m h (omega arith))) ∙ fit h m short (omega arith) in
-    elim (or-cases (eqb r 1) (eqb r 3 || eqb r 4) one-of) [
-      | inl e ↦ inl (eqb-true r 1 e)
-      | inr e ↦
-          elim (or-cases (eqb r 3) (eqb r 4) e) [
-            | inl f ↦ inr (inl (eqb-true r 3 f))
-            | inr f ↦ inr (inr (eqb-true r 4 f))
-          ]
-    ]
+agree-partly h m short l = agreed h m short (omega arith) .1 (omega arith)

@@ -20,7 +20,7 @@ use Rattle.words.specs.Words.{letter, word-digit, word-vectors}
 use Rattle.words.specs.WorkedCases.{Worked-cases, Distance-law, distance}
 use Rattle.words.proofs.EachBelow.{each-below, from-each}
 use Rattle.words.proofs.Matching.{common, pairing-agreement}
-use Rattle.words.proofs.Readings.{same-yes, same-no}
+use Rattle.digits.proofs.Sums.{same-yes, same-no}
 
 -- words agree or differ at each place
 agree-or-differ : (word other : ℕ → ℕ) (places : List ℕ) → agreements other word places + differences word other places ≡ length places

@@ -40,9 +40,9 @@ size-at h q c = cond (ltb c 1) 0 (cond (ltb c (1 + h * q)) 1 2)
 abbrev pub word-dim : ℕ → ℕ → ℕ
 word-dim h q = 1 + h * q + h * (h - 1) / 2 * (q * q)
 
--- digit c of the vector of position t, with these weights
+-- digit c of the vector of position t, with weights by the size of the set of places
 unfoldable pub word-digit : ℕ → ℕ → (ℕ → ℕ) → ℕ → ℕ → ℕ
-word-digit h q weight t c = cond (ltb t (q ^ h)) (mark q weight (letter h q t) (place-sets h) c) 0
+word-digit h q by-size t c = cond (ltb t (q ^ h)) (mark q by-size (letter h q t) (place-sets h) c) 0
 
 -- u(t) is 1 at coordinate 0 and wherever the word of t has the coordinate's letters at its places; v(t) is its weight there
 abbrev pub word-vectors : ℕ → ℕ → Vectors

@@ -3,7 +3,7 @@ ghost use mathlib.Core.Path.{_≡_};
 ghost use Prim.Native.Nat.{_%_};
 ghost use Rattle.std.specs.Results.{Cases};
 ghost use Rattle.std.specs.declared.option.Option.the-variants.{None, Some};
-ghost use Rattle.digits.specs.Elements.{alike, zero-element};
+ghost use Rattle.digits.specs.Elements.{same-element, zero-element};
 ghost use Rattle.digits.specs.Refusals.{long-fault, row-fault};
 ghost use Rattle.digits.specs.Rows.{at};
 use crate::element::Element;
@@ -49,7 +49,7 @@ impl Element {
 }
 
 pub impl PartialEq<Element> for Element as ElementPartialEq {
-    ghost equals = { λ e f r. r ≡ alike (e .digits) (f .digits) };
+    ghost equals = { λ e f r. r ≡ same-element (e .digits) (f .digits) };
 
     fn eq(&self, other: &Element) -> bool {
         let a = self.digits;
