@@ -45,23 +45,24 @@ def digits_or_refuse(row, offset=0):
 
 
 class Family:
-    """A family by its list of pairs of vectors."""
+    """A family: its count, its dimension, and the two vectors of each position."""
 
-    def __init__(self, vectors, dimension):
-        self.vectors, self.dimension, self.count = vectors, dimension, len(vectors)
+    def __init__(self, count, dimension, tell):
+        self.count, self.dimension, self.tell = count, dimension, tell
 
     def rows(self, i):
         if i < self.count:
-            return self.vectors[i]
+            return self.tell(i)
         return [0] * self.dimension, [0] * self.dimension
+
+    def all_rows(self):
+        return [self.rows(i) for i in range(self.count)]
 
 
 def unit(n):
     if not 1 <= n <= 4096:
         raise size(n)
-    if n > 64:  # the large ones are only asked for their sizes
-        return Family([None] * n, n)
-    return Family([([int(c == i) for c in range(n)], [int(c != i) for c in range(n)]) for i in range(n)], n)
+    return Family(n, n, lambda i: ([int(c == i) for c in range(n)], [int(c != i) for c in range(n)]))
 
 
 def coordinates(h, q):
@@ -75,35 +76,35 @@ def coordinates(h, q):
             yield ((i, c), (j, d))
 
 
-def words(h, q, wanted=None):
+def words(h, q):
     if not 1 <= h <= 5:
         raise size(h)
     if not 2 <= q <= 16:
         raise size(q)
     meanings = list(coordinates(h, q))
-    vectors = [None] * q**h
-    for t in ([wanted] if wanted is not None else []):
-        if t < len(vectors):
-            word = [t // q ** (h - 1 - p) % q for p in range(h)]
-            u = [int(all(word[p] == letter for p, letter in m)) for m in meanings]
-            v = [WEIGHTS[h][len(m)] * x for m, x in zip(meanings, u)]
-            vectors[t] = (u, v)
-    return Family(vectors, len(meanings))
+
+    def tell(t):
+        word = [t // q ** (h - 1 - p) % q for p in range(h)]
+        u = [int(all(word[p] == letter for p, letter in m)) for m in meanings]
+        return u, [WEIGHTS[h][len(m)] * x for m, x in zip(meanings, u)]
+
+    return Family(q**h, len(meanings), tell)
 
 
 def first(m, family):
     if not 1 <= m <= family.count:
         raise size(m)
-    return Family(family.vectors[:m], family.dimension)
+    return Family(m, family.dimension, family.tell)
 
 
 def dot(a, b):
     return sum(x * y for x, y in zip(a, b)) % 6
 
 
-def book(data):
-    whole = len(data)
-    at = 0
+def examined(data):
+    """What an examination finds: dimension, positions, pairs tried, and the family or the refusal."""
+    whole, at = len(data), 0
+    found = {"dimension": "-", "positions": "-", "pairs": "-"}
 
     def take(n):
         nonlocal at
@@ -112,31 +113,48 @@ def book(data):
         at += n
         return data[at - n:at]
 
-    dimension = int.from_bytes(take(2), "big")
-    if not 1 <= dimension <= 4096:
-        raise size(dimension)
-    count = int.from_bytes(take(4), "big")
-    if not 1 <= count <= 1024:
-        raise size(count)
-    sections = []
-    for section in range(2):
-        if section == 1:
-            second = int.from_bytes(take(4), "big")
-            if second != count:
-                raise Refused(4, "counts", [second], "family")
-        start = at
-        rows = take(count * dimension)
-        digits_or_refuse(rows, start)
-        sections.append([list(rows[i * dimension:(i + 1) * dimension]) for i in range(count)])
-    if at != whole:
-        raise length(whole)
-    us, vs = sections
-    for i in range(count):
-        for j in range(count):
-            p = dot(us[i], vs[j])
-            if (p != 0) if i == j else (p not in (1, 3, 4)):
-                raise Refused(5, "unmatched", [i, j], "family")
-    return Family(list(zip(us, vs)), dimension)
+    def read():
+        dimension = int.from_bytes(take(2), "big")
+        if not 1 <= dimension <= 4096:
+            raise size(dimension)
+        found["dimension"] = dimension
+        count = int.from_bytes(take(4), "big")
+        if not 1 <= count <= 1024:
+            raise size(count)
+        found["positions"] = count
+        sections = []
+        for section in range(2):
+            if section == 1:
+                second = int.from_bytes(take(4), "big")
+                if second != count:
+                    raise Refused(4, "counts", [second], "family")
+            start = at
+            rows = take(count * dimension)
+            digits_or_refuse(rows, start)
+            sections.append([list(rows[i * dimension:(i + 1) * dimension]) for i in range(count)])
+        if at != whole:
+            raise length(whole)
+        us, vs = sections
+        found["pairs"] = 0
+        for i in range(count):
+            for j in range(count):
+                found["pairs"] += 1
+                p = dot(us[i], vs[j])
+                if (p != 0) if i == j else (p not in (1, 3, 4)):
+                    raise Refused(5, "unmatched", [i, j], "family")
+        return Family(count, dimension, lambda i: (us[i], vs[i]))
+
+    try:
+        return found, read()
+    except Refused as refusal:
+        return found, refusal
+
+
+def book(data):
+    _, came = examined(data)
+    if isinstance(came, Refused):
+        raise came
+    return came
 
 
 def element(row):
@@ -168,6 +186,12 @@ def asked(family, rest):
     return f"product {result} spread{spaced(after)}"
 
 
+def reported(data):
+    found, came = examined(data)
+    verdict = came if isinstance(came, Refused) else "accepted"
+    return " ".join(f"{name} {value}" for name, value in found.items()) + f" {verdict}"
+
+
 def turned(e, s):
     return [e[(r + s) % 6] for r in range(6)]
 
@@ -183,6 +207,13 @@ def times(e, f):
 def alone(row, s, a):
     e = element(row)
     return f"read{spaced(e)} turned{spaced(turned(e, s))} scaled{spaced([a * d % 6 for d in e])} digit {e[s % 6]}"
+
+
+def written(row, over):
+    e = element(row)
+    if len(over) != 6:
+        return f"{length(len(over))} row{spaced(over)}"
+    return f"row{spaced(e)}"
 
 
 def together(one, two):
@@ -217,17 +248,35 @@ def flat_book(us, vs, k, count=None, second=None):
     return k.to_bytes(2, "big") + count.to_bytes(4, "big") + rows(us) + second.to_bytes(4, "big") + rows(vs)
 
 
+def book_of(family):
+    rows = family.all_rows()
+    return flat_book([u for u, _ in rows], [v for _, v in rows], family.dimension)
+
+
 def books(rng):
     """Books, good and bad in every way."""
     good = []
     for n in (1, 2, 3, 5, 16):
-        f = unit(n)
-        good.append(flat_book([u for u, _ in f.vectors], [v for _, v in f.vectors], n))
+        good.append(book_of(unit(n)))
     for h, q in ((1, 2), (1, 5), (2, 2), (2, 3), (3, 2), (4, 2), (5, 2)):
-        f = [words(h, q, t).vectors[t] for t in range(q**h)]
-        k = len(f[0][0])
-        good.append(flat_book([u for u, _ in f], [v for _, v in f], k))
+        good.append(book_of(words(h, q)))
     yield from good
+    # two faults at once, of which the first in order counts
+    us, vs, bad = [[1, 0], [0, 1]], [[0, 1], [1, 0]], [[0, 1], [1, 6]]
+    yield flat_book(bad, vs, 2, 2, 3)
+    yield flat_book(us, bad, 2, 2, 3)
+    yield flat_book(bad, bad, 2, 2, 2)
+    yield flat_book(us, vs, 2, 2, 3)[:-1]
+    yield flat_book(us, vs, 2, 2, 3) + b"\x00"
+    yield flat_book(us, bad, 2) + b"\x00"
+    yield flat_book(bad, vs, 2)[:-3]
+    yield flat_book(us, bad, 2)[:-1]
+    yield flat_book(us, us, 2) + b"\x00"
+    yield flat_book(us, us, 2)
+    yield flat_book(us, vs, 0, 0)
+    yield flat_book(us, vs, 4097, 0)
+    yield flat_book(us, vs, 2, 0, 5)
+    yield flat_book(us, vs, 2, 1025, 5)
     # the products of one order fit and those of the other do not, so trying i < j alone would accept it
     yield flat_book([[1, 0], [0, 1]], [[0, 2], [1, 0]], 2)
     yield flat_book([[1, 0], [0, 1]], [[0, 1], [2, 0]], 2)
@@ -273,46 +322,53 @@ def some_row(rng, n, top=5):
 def kinds(rng):
     """Families of every kind: sizes at the edges, vectors, products and spreading."""
     for n in (0, 1, 2, 4095, 4096, 4097, 2**32):
-        yield "unit", [n], None, lambda i, n=n: unit(n)
+        yield "unit", [n], None, lambda n=n: unit(n)
     for h, q in product(range(0, 7), range(0, 19)):
-        yield "words", [h, q], None, lambda i, h=h, q=q: words(h, q)
+        yield "words", [h, q], None, lambda h=h, q=q: words(h, q)
     for m in (0, 1, 8, 9, 10):
-        yield "first", [m, 2, 3], None, lambda i, m=m: first(m, words(2, 3))
+        yield "first", [m, 2, 3], None, lambda m=m: first(m, words(2, 3))
     for m in (0, 1, 1048575, 1048576, 1048577):
-        yield "first", [m, 5, 16], None, lambda i, m=m: first(m, words(5, 16))
+        yield "first", [m, 5, 16], None, lambda m=m: first(m, words(5, 16))
+    for m in (0, 1, 4, 5, 6):
+        yield "part", [m, 4], None, lambda m=m: first(m, first(5, unit(6)))
+    for i in range(6):
+        yield "part", [3, 4], i, lambda: first(3, first(5, unit(6)))
     for n in (1, 2, 7):
         for i in range(n + 2):
-            yield "unit", [n], i, lambda i, n=n: unit(n)
+            yield "unit", [n], i, lambda n=n: unit(n)
+    for i in (0, 4095, 4096):
+        yield "unit", [4096], i, lambda: unit(4096)
     for h, q in ((1, 2), (1, 3), (2, 2), (2, 3), (3, 2), (3, 3), (4, 2), (5, 2)):
         for i in range(q**h + 1):
-            yield "words", [h, q], i, lambda i, h=h, q=q: words(h, q, i)
-    for h, q in ((5, 16), (4, 16), (5, 15), (3, 16), (5, 7), (2, 16)):
-        for i in [0, 1, q, q**h - 1, q**h, q**h + 5] + [rng.randrange(q**h) for _ in range(6)]:
-            yield "words", [h, q], i, lambda i, h=h, q=q: words(h, q, i)
+            yield "words", [h, q], i, lambda h=h, q=q: words(h, q)
+    for h, q in ((5, 16), (4, 16), (3, 16), (5, 7), (2, 16), (1, 16)):
+        for i in (0, q**h - 1, q**h, rng.randrange(q**h)):
+            yield "words", [h, q], i, lambda h=h, q=q: words(h, q)
     for i in range(6):
-        yield "first", [4, 2, 3], i, lambda i: first(4, words(2, 3, i))
-    f = [words(2, 2, t).vectors[t] for t in range(4)]
-    held = flat_book([u for u, _ in f], [v for _, v in f], len(f[0][0]))
+        yield "first", [4, 2, 3], i, lambda: first(4, words(2, 3))
+    held = book_of(words(2, 2))
     for i in range(6):
-        yield "book", [hexed(held)], i, lambda i: book(held)
+        yield "book", [hexed(held)], i, lambda: book(held)
 
 
 def cases(rng):
     for b in books(rng):
         yield "book " + hexed(b), lambda b=b: asked(book(b), [])
+        yield "examine " + hexed(b), lambda b=b: reported(b)
     for word, numbers, i, make in kinds(rng):
         line = " ".join(map(str, [word, *numbers]))
         if i is None:
-            yield line, lambda make=make: asked(make(None), [])
+            yield line, lambda make=make: asked(make(), [])
             continue
-        k = make(i).dimension
-        if k < 200:
-            yield f"{line} {i}", lambda make=make, i=i: asked(make(i), [i])
-        for n in {0, 1, 6 * k - 1, 6 * k, 6 * k + 3} if k < 20 else {k + 1}:
-            amount, e, row = rng.randint(0, 5), rng.randint(0, 20), some_row(rng, n)
-            yield f"{line} {i} {amount} {e} {hexed(row)}", lambda make=make, i=i, a=amount, e=e, r=row: asked(make(i), [i, a, e, r])
-        amount, e, row = rng.randint(0, 255), rng.randint(0, 2**40), some_row(rng, min(6 * k, 90), 255)
-        yield f"{line} {i} {amount} {e} {hexed(row)}", lambda make=make, i=i, a=amount, e=e, r=row: asked(make(i), [i, a, e, r])
+        k = make().dimension
+        yield f"{line} {i}", lambda make=make, i=i: asked(make(), [i])
+        rows = [(rng.randint(0, 5), rng.randint(0, 20), some_row(rng, n)) for n in ({0, 1, 6 * k - 1, 6 * k, 6 * k + 3} if k < 20 else {6 * k})]
+        rows.append((rng.randint(0, 255), rng.randint(0, 2**40), some_row(rng, min(6 * k, 90), 255)))
+        for amount, e, row in rows:
+            yield f"{line} {i} {amount} {e} {hexed(row)}", lambda make=make, i=i, a=amount, e=e, r=row: asked(make(), [i, a, e, r])
+    for n in (0, 5, 6, 7, 12):
+        one, over = some_row(rng, 6), some_row(rng, n, 255)
+        yield f"write {hexed(one)} {hexed(over)}", lambda one=one, over=over: written(one, over)
     for _ in range(300):
         one, two = some_row(rng, 6), some_row(rng, 6)
         s, a = rng.randint(0, 13), rng.randint(0, 255)

@@ -37,18 +37,6 @@ module _ (f : Vectors) (i : ℕ) (before : (k : ℕ) → k < i → eqb (bad-part
       let there = first-is (λ k. eqb (bad-partner f k) (f .count)) (f .count) i (omega arith) before (λ l. absurd (omega arith)) in
       sym (cond-true _ _ _ (eq-eqb (bad-position f) (f .count) (there ∙ e)))
 
-pub bad-pair-below : (f : Vectors) (i j : ℕ) → Some (i, j) ≡ bad-pair f → (i ≤ f .count) × (j ≤ f .count)
-unfolding bad-partner bad-position
-bad-pair-below f i j e =
-    let position : bad-position f ≤ f .count = omega (arith, leading-le-length (λ k. eqb (bad-partner f k) (f .count)) (counting 0 (f .count)), length-counting 0 (f .count)) in
-    let partner : bad-partner f (bad-position f) ≤ f .count = omega (arith, leading-le-length (fits f (bad-position f)) (counting 0 (f .count)), length-counting 0 (f .count)) in
-    elim (cases-cond (eqb (bad-position f) (f .count)) None (Some (bad-position f, bad-partner f (bad-position f))) (Some (i, j)) e) [
-      | inl none ↦ absurd (some≢none (i, j) none)
-      | inr is ↦
-          let same : _≡_ {A = ℕ × ℕ} (i, j) (bad-position f, bad-partner f (bad-position f)) = cc in
-          (omega (arith, ap (λ p. p .0) same), omega (arith, ap (λ p. p .1) same))
-    ]
-
 module _ (f : Vectors) where
   matches-from : ((i j : ℕ) → i < f .count → j < f .count → fits f i j ≡ true) → Matches f
   matches-from all =
@@ -118,3 +106,6 @@ module _ (f : Vectors) where
         | inl none ↦ absurd (some≢none (i, j) none)
         | inr is ↦ first-at i j (ap (λ p. p .0) (taken-out _ _ is)) (ap (λ p. p .1) (taken-out _ _ is)) (λ e′. some≢none (i, j) (sym e ∙ cond-true _ _ _ (eq-eqb _ _ e′)))
       ]
+
+pub bad-pair-below : (f : Vectors) (i j : ℕ) → Some (i, j) ≡ bad-pair f → (i < f .count) × (j < f .count)
+bad-pair-below f i j e = first-unmatched f i j (sym e) .below

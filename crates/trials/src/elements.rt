@@ -22,6 +22,25 @@ fn shown(heap: Global, element: &Element) -> Result<String, AllocError> {
     }
 }
 
+// An element written over a row of any length.
+pub(crate) fn written(heap: Global, row: &str, over: &str) -> Result<String, AllocError> {
+    match Element::read(bytes_of(heap, row)?.as_slice()) {
+        Ok(e) => {
+            let mut place = bytes_of(heap, over)?;
+            let came = e.write(place.as_mut_slice());
+            let after = spaced(heap, place.as_slice())?;
+            match came {
+                Ok(_) => format!(heap, "row{after}"),
+                Err(fault) => {
+                    let why = refusal(heap, &fault)?;
+                    format!(heap, "{why} row{after}")
+                }
+            }
+        }
+        Err(fault) => refusal(heap, &fault),
+    }
+}
+
 // One element: read, turned and scaled.
 pub(crate) fn alone(
     heap: Global,

@@ -2,6 +2,7 @@
 mod cases;
 mod elements;
 mod families;
+mod reports;
 mod text;
 
 use cases::answer_to;

@@ -1,4 +1,4 @@
-use mathlib.Core.Path.{sym, ap, subst, _∙_}
+use mathlib.Core.Path.{_≡_, sym, ap, subst, _∙_}
 use mathlib.Core.List.{List}
 use Prim.Native.Nat.{ℕ, _+_, _*_, _%_}
 use native.Mathlib.Omega.{arith}
@@ -40,9 +40,10 @@ loop-c-again c =
     let own : List ℕ = c .list-c-items .result .now in
     let ys : List ℕ = c .loop-c .elements in
     let p : ℕ = 6 * at own (c .loop-c .c-index) + c .args .e % 6 in
+    let whole : c .from .result ≡ c .args .amount = cc in
     subst
     (λ row. Passed (word-digit h q (λ s. 1) (c .args .i)) (c .args .amount) (c .args .e) (getD own (c .loop-c .c-index + 1) (word-dim h q)) (c .args .elements .now) row)
-    (sym (c .add-at .ensures ∙ ap (λ a. set ys p ((at ys p + a) % 6)) (c .from .ensures)))
+    (sym (c .add-at .ensures ∙ ap (λ a. set ys p ((at ys p + a) % 6)) whole))
     (spread-more h q (c .args .i) (omega arith) (omega arith) own (c .list-c-items .ensures ∙ c .own-own .ensures .0)
     (c .args .amount) (c .args .e) (c .args .elements .now) (c .loop-c .c-index) ys (omega arith) (c .loop-c .kept .elements) (c .loop-c .inv))
 
