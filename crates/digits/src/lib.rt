@@ -1,4 +1,4 @@
-// Digits modulo 6: faults, rows, the product of two vectors, elements of six digits, and tapes.
+// Digits modulo 6: rows, limits, the product of two vectors, elements of six digits, and tapes.
 pub mod element;
 pub mod limits;
 pub mod product;

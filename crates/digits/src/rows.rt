@@ -1,4 +1,4 @@
-// Rows of digits: reading a digit, and refusing a row that is none.
+// Rows of digits: reading a digit, adding to one, and refusing a row that is none.
 ghost use mathlib.Core.Path.{_≡_};
 ghost use Prim.Native.Nat.{_+_, _%_};
 ghost use lib.ListN.{length, set};

@@ -44,7 +44,7 @@ pub trait Family {
     }
 
     // Adds the amount times u(i) times the power e of g to the elements of all coordinates, which stand one after the
-    // other; a place where nothing is added stays as it is, and places past the row's end are passed over.
+    // other. Where u(i) is 0, and at the places of other powers, nothing changes; places past the row's end are passed over.
     fn spread(&self, i: usize, amount: u8, e: usize, elements: &mut [u8])
         ensures { λ _. ⌜ now (elements .exit) ≡ spread (vectors (now (self .entry)) .u i) amount e (now (elements .entry)) ⌝ }
     {

@@ -18,7 +18,7 @@ smallest = word-vectors 1 2
 abbrev pub distance : ℕ → ℕ → ℕ → ℕ → ℕ
 distance h q t t′ = differences (letter h q t) (letter h q t′) (counting 0 h)
 
--- the product of u and v of two words, by the number of letters in which they differ, for words of every length
+-- the product of u and v of two words, by the number of letters in which they differ, for words of 1 to 5 letters
 abbrev pub Distance-law : Type 0
 Distance-law =
     (h q t t′ : ℕ) → 1 ≤ h → h ≤ 5 → 2 ≤ q → q ≤ 16 → t < q ^ h → t′ < q ^ h →

@@ -9,8 +9,8 @@ pub fn worked_cases() -> u8
     0
 }
 
-// Holds in its contract that words which differ in d letters have the product d times d, modulo 6, whatever their length
-// and alphabet; the number says nothing.
+// Holds in its contract that words which differ in d letters have the product d times d, modulo 6, for every length and
+// alphabet that a family of words can have; the number says nothing.
 pub fn distance_law() -> u8
     ensures { λ r. ⌜ r ≡ 0 ⌝ ∗ ⌜ Distance-law ⌝ }
 {
