@@ -1,4 +1,7 @@
 // Books: families that are read from bytes.
+
+#![tactic(auto)]
+
 pub mod book;
 mod fields;
 mod pairs;

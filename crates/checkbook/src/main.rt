@@ -1,4 +1,7 @@
 // The program `checkbook`: reads a book from standard input, and prints what it finds.
+
+#![tactic(auto)]
+
 mod summary;
 
 use books::examine;

@@ -22,9 +22,9 @@ lone_fault d = cond (nat_lt d 6) None (Some (digit_fault 0))
 abbrev pub width_fault : ℕ → ℕ → Option Fault
 width_fault n found = cond (found == n) None (Some (length_fault found))
 
--- what is amiss with a row that must have n bytes
+-- what is amiss with a row that must have n bytes: the length found
 abbrev pub long_fault : ℕ → List ℕ → Option Fault
-long_fault n xs = width_fault n (length xs)
+long_fault n xs = cond (length xs == n) None (Some (length_fault (length xs)))
 
 -- what is amiss with a row that is to be n digits: its length, else its first byte above 5
 abbrev pub row_fault : ℕ → List ℕ → Option Fault

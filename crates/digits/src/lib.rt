@@ -1,4 +1,7 @@
 // Digits modulo 6: rows, limits, the product of two vectors, elements of six digits, and tapes.
+
+#![tactic(auto)]
+
 pub mod element;
 pub mod limits;
 pub mod product;

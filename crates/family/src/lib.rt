@@ -1,4 +1,7 @@
 // Matching families: the interface that every kind is used by, the unit family, and the first part of any family.
+
+#![tactic(auto)]
+
 pub mod family;
 pub mod first;
 pub mod unit;

@@ -1,4 +1,7 @@
 // The program `trials`: runs one case of the layers below for each line of its input, and prints what came of it.
+
+#![tactic(auto)]
+
 mod cases;
 mod elements;
 mod families;

@@ -1,4 +1,7 @@
 // The word family: words of equal length over an alphabet, told by the letters at each place and at each two places.
+
+#![tactic(auto)]
+
 mod letters;
 mod own;
 mod weights;

@@ -13,10 +13,10 @@ returns-in-Err c =
       verdict = refused.verdict ∙ t.fault_found;
     }
 
-pub returns-in-Err-take-count : goal.returns-in-Err-take-count
-returns-in-Err-take-count c =
-    let refused = c.refused-in-Err-take-count.ensures in
-    let t = at_count c.args.bytes.now _ _ c.in-Ok.ensures c.in-Err-take-count.fault c.in-Err-take-count.ensures in
+pub returns-in-Err-take_count : goal.returns-in-Err-take_count
+returns-in-Err-take_count c =
+    let refused = c.refused-in-Err-take_count.ensures in
+    let t = at_count c.args.bytes.now _ _ c.in-Ok.ensures c.in-Err-take_count.fault c.in-Err-take_count.ensures in
     record {
       dimension = refused.dimension ∙ t.dimension_told;
       positions = refused.positions ∙ t.positions_told;
@@ -24,12 +24,12 @@ returns-in-Err-take-count c =
       verdict = refused.verdict ∙ t.fault_found;
     }
 
-pub returns-in-Err-check-sections : goal.returns-in-Err-check-sections
-returns-in-Err-check-sections c =
-    let refused = c.refused-in-Err-check-sections.ensures in
+pub returns-in-Err-check_sections : goal.returns-in-Err-check_sections
+returns-in-Err-check_sections c =
+    let refused = c.refused-in-Err-check_sections.ensures in
     let t =
-    at_sections c.args.bytes.now _ _ c.in-Ok.ensures _ _ c.in-Ok-take-count.ensures
-    c.in-Err-check-sections.fault c.in-Err-check-sections.ensures in
+    at_sections c.args.bytes.now _ _ c.in-Ok.ensures _ _ c.in-Ok-take_count.ensures
+    c.in-Err-check_sections.fault c.in-Err-check_sections.ensures in
     record {
       dimension = refused.dimension ∙ t.dimension_told;
       positions = refused.positions ∙ t.positions_told;
@@ -37,20 +37,20 @@ returns-in-Err-check-sections c =
       verdict = refused.verdict ∙ t.fault_found;
     }
 
-pub examine-pairs-requires : goal.examine-pairs-requires
-examine-pairs-requires c =
+pub examine_pairs-requires : goal.examine_pairs-requires
+examine_pairs-requires c =
     record {
-      order = layout_at c.args.bytes.now _ _ c.in-Ok.ensures _ _ c.in-Ok-take-count.ensures _ c.in-default.ensures;
-      counted = counted c.args.bytes.now _ _ c.in-Ok.ensures _ _ c.in-Ok-take-count.ensures;
+      order = layout_at c.args.bytes.now _ _ c.in-Ok.ensures _ _ c.in-Ok-take_count.ensures _ c.in_default.ensures;
+      counted = counted c.args.bytes.now _ _ c.in-Ok.ensures _ _ c.in-Ok-take_count.ensures;
       wide = c.in-Ok.ensures.1;
     }
 
 pub returns : goal.returns
 returns c =
-    let accepted = c.examine-pairs.ensures in
+    let accepted = c.examine_pairs.ensures in
     let t =
-    at_pairs c.args.bytes.now _ _ c.in-Ok.ensures _ _ c.in-Ok-take-count.ensures
-    _ c.in-default.ensures accepted.verdict in
+    at_pairs c.args.bytes.now _ _ c.in-Ok.ensures _ _ c.in-Ok-take_count.ensures
+    _ c.in_default.ensures accepted.verdict in
     record {
       dimension = accepted.dimension ∙ t.dimension_told;
       positions = accepted.positions ∙ t.positions_told;

@@ -5,10 +5,10 @@ use Rattle.digits.proofs.product.plain_sum.Goals as goal
 
 -- what one turn adds
 turn : (c : goal.After-from-in-loop-i) → c.from.result * c.from-in-loop-i.result ≤ 65025
-turn c = bytes_product _ _ (omega (arith, c.type-inv.a c.loop-i.i, c.from.ensures)) (omega (arith, c.type-inv.b c.loop-i.i, c.from-in-loop-i.ensures))
+turn c = bytes_product _ _ (omega (arith, c.type_inv.a c.loop-i.i, c.from.ensures)) (omega (arith, c.type_inv.b c.loop-i.i, c.from-in-loop-i.ensures))
 
-pub overflow-add-sum : goal.overflow-add-sum
-overflow-add-sum c = omega (arith, turn c, c.loop-i.invariant.1)
+pub overflow_add-sum : goal.overflow_add-sum
+overflow_add-sum c = omega (arith, turn c, c.loop-i.invariant.1)
 
 pub loop-i-init : goal.loop-i-init
 loop-i-init c = (sym (total_start _), omega arith)

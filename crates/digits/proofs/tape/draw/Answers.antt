@@ -9,7 +9,7 @@ loop-i-preserved c = search (rules, fill_by_more (λ k. at c.args.bytes.now k % 
 
 pub returns : goal.returns
 returns c =
-    let same = c.in-ok-check-length.ensures.fits in (
-      c.in-ok-check-length.ensures.cases,
+    let same = c.in_ok-check_length.ensures.fits in (
+      c.in_ok-check_length.ensures.cases,
       fill_by_all (λ k. at c.args.bytes.now k % 6) c.loop-i.tape (length c.args.bytes.now) 0 (omega arith) (λ k h. c.loop-i.invariant k (omega arith)),
     )

@@ -8,11 +8,11 @@ use Rattle.books.specs.Accepting.{only_families, all_families, first_fault, told
 use Rattle.digits.proofs.Passing.{some≢none}
 use Rattle.books.proofs.book.Book.read.Goals as goal
 
-pub returns-in-err-report : goal.returns-in-err-report
-returns-in-err-report c =
+pub returns-in_err-report : goal.returns-in_err-report
+returns-in_err-report c =
     let p = err_from_is_err_and c.from-residual.result c.from-residual.ensures.1 in
-    let fault : book_fault (vec_items c.args.bytes) ≡ Some c.in-err-report.field-0.0 =
-    ap book_fault (sym c.as-slice.ensures.value) ∙ sym c.examine-report.ensures.verdict ∙ ap result_err c.in-err-report.was in
+    let fault : book_fault (vec_items c.args.bytes) ≡ Some c.in_err-report.field-0.0 =
+    ap book_fault (sym c.as_slice.ensures.value) ∙ sym c.examine-report.ensures.verdict ∙ ap result_err c.in_err-report.was in
     rw (p.1, p.2)
     record {
       cases = fault;
@@ -23,18 +23,18 @@ returns-in-err-report c =
 
 pub unwrap-count-requires : goal.unwrap-count-requires
 unwrap-count-requires c =
-    let none : book_fault c.as-slice.result.now ≡ None = sym c.examine-report.ensures.verdict ∙ ap result_err c.in-ok-report.was in
-    ap is_some (c.examine-report.ensures.positions ∙ (told_both c.as-slice.result.now none).1)
+    let none : book_fault c.as_slice.result.now ≡ None = sym c.examine-report.ensures.verdict ∙ ap result_err c.in_ok-report.was in
+    ap is_some (c.examine-report.ensures.positions ∙ (told_both c.as_slice.result.now none).1)
 
-pub invariant-of-result : goal.invariant-of-result
-invariant-of-result c =
-    let none : book_fault c.as-slice.result.now ≡ None = sym c.examine-report.ensures.verdict ∙ ap result_err c.in-ok-report.was in
-    let told = told_both c.as-slice.result.now none in
-    let counted : c.unwrap-count.result ≡ count_of c.as-slice.result.now =
+pub invariant_of-result : goal.invariant_of-result
+invariant_of-result c =
+    let none : book_fault c.as_slice.result.now ≡ None = sym c.examine-report.ensures.verdict ∙ ap result_err c.in_ok-report.was in
+    let told = told_both c.as_slice.result.now none in
+    let counted : c.unwrap-count.result ≡ count_of c.as_slice.result.now =
     let some = sym c.unwrap-count.ensures ∙ c.examine-report.ensures.positions ∙ told.1 in cc some in
-    let wide : c.unwrap-dimension.result ≡ dimension_of c.as-slice.result.now =
+    let wide : c.unwrap-dimension.result ≡ dimension_of c.as_slice.result.now =
     let some = sym c.unwrap-dimension.ensures ∙ c.examine-report.ensures.dimension ∙ told.0 in cc some in
-    let value = c.as-slice.ensures.value in
+    let value = c.as_slice.ensures.value in
     let told_count : c.unwrap-count.result ≡ count_of (vec_items c.args.bytes) = counted ∙ ap count_of value in
     let told_dimension : c.unwrap-dimension.result ≡ dimension_of (vec_items c.args.bytes) = wide ∙ ap dimension_of value in
     (ap is_some (ap book_fault (sym value) ∙ none), search rules)
@@ -42,7 +42,7 @@ invariant-of-result c =
 pub returns : goal.returns
 returns c =
     let none : book_fault (vec_items c.args.bytes) ≡ None =
-    ap book_fault (sym c.as-slice.ensures.value) ∙ sym c.examine-report.ensures.verdict ∙ ap result_err c.in-ok-report.was in
+    ap book_fault (sym c.as_slice.ensures.value) ∙ sym c.examine-report.ensures.verdict ∙ ap result_err c.in_ok-report.was in
     record {
       cases = (refl, none);
       sound = λ e. only_families (vec_items c.args.bytes) none;

@@ -3,8 +3,8 @@ use Rattle.books.specs.BookVectors.{digit_from}
 use Rattle.books.specs.Telling.{book_room}
 use Rattle.books.proofs.book.Book.v_row.Goals as goal
 
-pub second-start-requires : goal.second-start-requires
-second-start-requires c =
+pub second_start-requires : goal.second_start-requires
+second_start-requires c =
     let b = c.args.self.now in
     let room = book_room (vec_items b.bytes) b.count b.dimension b.accepted b.counted b.wide in
     (room.1, room.2)
@@ -19,4 +19,4 @@ returns c =
     let b = c.args.self.now in
     λ k. c.vector.ensures.digits k
     ∙ ap (λ start. digit_from start (vec_items b.bytes) c.args.i k)
-    (c.second-start.ensures ∙ ap₂ (λ n d. 10 + n * d) b.counted b.wide)
+    (c.second_start.ensures ∙ ap₂ (λ n d. 10 + n * d) b.counted b.wide)

@@ -5,18 +5,18 @@ use Rattle.books.specs.Places.{vector_ends}
 use Rattle.books.specs.Telling.{whole_vector}
 use Rattle.books.proofs.book.Book.vector.Goals as goal
 
-pub vector-at-requires : goal.vector-at-requires
-vector-at-requires c =
+pub vector_at-requires : goal.vector_at-requires
+vector_at-requires c =
     omega (
       arith,
-      ap length c.as-slice.ensures.value,
+      ap length c.as_slice.ensures.value,
       vector_ends c.args.i c.args.self.now.count c.args.self.now.dimension (omega arith),
     )
 
 pub returns-then-i-self : goal.returns-then-i-self
 returns-then-i-self c =
     let b = c.args.self.now in
-    let is = c.vector-at.ensures ∙ ap (λ xs. take b.dimension (drop (c.args.start + c.args.i * b.dimension) xs)) c.as-slice.ensures.value in
+    let is = c.vector_at.ensures ∙ ap (λ xs. take b.dimension (drop (c.args.start + c.args.i * b.dimension) xs)) c.as_slice.ensures.value in
     let ends = vector_ends c.args.i b.count b.dimension (omega arith) in
     let long =
     ap length is

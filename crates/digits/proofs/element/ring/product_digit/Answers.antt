@@ -12,8 +12,8 @@ turn c =
     (omega (arith, c.args.a.now.small c.loop-i.i, c.from.ensures))
     (omega (arith, c.args.b.now.small ((c.args.r % 6 + 6 - c.loop-i.i) % 6), c.from-in-loop-i.ensures))
 
-pub overflow-add-sum : goal.overflow-add-sum
-overflow-add-sum c = omega (arith, turn c, c.loop-i.invariant.1)
+pub overflow_add-sum : goal.overflow_add-sum
+overflow_add-sum c = omega (arith, turn c, c.loop-i.invariant.1)
 
 pub loop-i-init : goal.loop-i-init
 loop-i-init c = (sym (total_start _), omega arith)

@@ -15,7 +15,7 @@ loop-c-preserved g c =
       | then-d-ne0 w ↦
           let whole : w.from.result ≡ c.args.amount = cc in
           let digit : w.from-then-d-ne0.result ≡ c.u-d.result = cc in
-          subst next (sym (w.elements-is ∙ w.add-at.ensures ∙ ap₂ (λ a d. set ys p ((at ys p + a * d) % 6)) whole digit))
+          subst next (sym (w.elements-is ∙ w.add_at.ensures ∙ ap₂ (λ a d. set ys p ((at ys p + a * d) % 6)) whole digit))
           (adds u c.args.amount c.args.e c.loop-c.c xs ys c.loop-c.invariant p c.u-d.result (omega arith) (omega arith) c.u-d.ensures (omega arith))
       | else-d-ne0 w ↦
           subst next (sym w.elements-is)

@@ -8,7 +8,7 @@ use Rattle.family.proofs.first.FirstPartFamily.u_product.Goals as goal
 pub returns-then-i-self : goal.returns-then-i-self
 returns-then-i-self g c =
     let f = g.F.Family.vectors c.args.self.now.family in
-    c.u-product.ensures
+    c.u_product.ensures
     ∙ sym (product_cong f.dim _ (at c.args.row.now) (f.u c.args.i) (at c.args.row.now)
     (λ k b. first_u c.args.self.now.count f (g.met.F.Family.matching c.args.self.now.family).told c.args.i (omega arith) k)
     (λ k b. refl))

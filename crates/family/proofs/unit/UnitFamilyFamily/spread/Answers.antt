@@ -8,7 +8,7 @@ use Rattle.family.proofs.unit.UnitFamilyFamily.spread.Goals as goal
 pub returns-then-i-self : goal.returns-then-i-self
 returns-then-i-self c =
     let whole : c.from.result ≡ c.args.amount = cc in
-    c.add-at.ensures
+    c.add_at.ensures
     ∙ unit_spread c.args.self.now.count c.args.i (omega arith) c.args.amount c.args.e
     (6 * c.args.i + c.args.e % 6) c.from.result c.args.elements.now (omega arith) whole
 

@@ -9,7 +9,7 @@ use Rattle.family.proofs.unit.UnitFamilyFamily.u_product.Goals as goal
 pub returns-then-i-self : goal.returns-then-i-self
 returns-then-i-self c =
     let own = unit_product c.args.self.now.count c.args.i (omega arith) (at c.args.row.now) in
-    omega (arith, own, c.digit-at.ensures)
+    omega (arith, own, c.digit_at.ensures)
 
 pub returns-else-i-self : goal.returns-else-i-self
 returns-else-i-self c =

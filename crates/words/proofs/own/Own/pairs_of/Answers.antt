@@ -6,17 +6,17 @@ use Rattle.words.proofs.Finding.{letters_fit, pairs_first, pair_next, pair_last,
 use Rattle.words.specs.Limits.{power_two}
 use Rattle.words.proofs.own.Own.pairs_of.Goals as goal
 
-pub overflow-mul-first : goal.overflow-mul-first
-overflow-mul-first c = omega (arith, (letters_fit _ _ _ _ c.requires.1 c.args.i).0)
+pub overflow_mul-first : goal.overflow_mul-first
+overflow_mul-first c = omega (arith, (letters_fit _ _ _ _ c.requires.1 c.args.i).0)
 
 pub loop-j-init : goal.loop-j-init
 loop-j-init c = pairs_first _ _ _ c.args.i c.requires.0 c.requires.1
 
-pub overflow-add-first : goal.overflow-add-first
-overflow-add-first c = omega (arith, (letters_fit _ _ _ _ c.requires.1 c.args.i).0, c.requires.1.letters c.loop-j.j, c.requires.1.few)
+pub overflow_add-first : goal.overflow_add-first
+overflow_add-first c = omega (arith, (letters_fit _ _ _ _ c.requires.1 c.args.i).0, c.requires.1.letters c.loop-j.j, c.requires.1.few)
 
-pub overflow-mul-alphabet : goal.overflow-mul-alphabet
-overflow-mul-alphabet c = omega (arith, (letters_fit _ _ _ _ c.requires.1 c.args.i).1)
+pub overflow_mul-alphabet : goal.overflow_mul-alphabet
+overflow_mul-alphabet c = omega (arith, (letters_fit _ _ _ _ c.requires.1 c.args.i).1)
 
 pub push-requires : goal.push-requires
 push-requires c =

@@ -15,15 +15,15 @@ loop-c-init c =
     spread_none c.args.self.now.letters c.args.self.now.alphabet c.args.i (omega arith) (omega arith) _ (c.list-c-items.ensures ∙ c.own-own.ensures.0)
     c.args.amount c.args.e c.args.elements.now
 
-pub overflow-mul-c : goal.overflow-mul-c
-overflow-mul-c c =
+pub overflow_mul-c : goal.overflow_mul-c
+overflow_mul-c c =
     let h : ℕ = c.args.self.now.letters in
     let q : ℕ = c.args.self.now.alphabet in
     let is = c.list-c-items.ensures ∙ c.own-own.ensures.0 in
     omega (arith, own_small h q c.args.i (omega arith) (omega arith) _ is (omega arith) (omega arith) c.loop-c.c-index (omega arith))
 
-pub overflow-add-c : goal.overflow-add-c
-overflow-add-c c =
+pub overflow_add-c : goal.overflow_add-c
+overflow_add-c c =
     let h : ℕ = c.args.self.now.letters in
     let q : ℕ = c.args.self.now.alphabet in
     let is = c.list-c-items.ensures ∙ c.own-own.ensures.0 in
@@ -39,7 +39,7 @@ loop-c-preserved c =
     let whole : c.from.result ≡ c.args.amount = cc in
     subst
     (λ row. Passed (word_digit h q (λ s. 1) c.args.i) c.args.amount c.args.e (get_or own (c.loop-c.c-index + 1) (word_dim h q)) c.args.elements.now row)
-    (sym (c.add-at.ensures ∙ ap (λ a. set ys p ((at ys p + a) % 6)) whole))
+    (sym (c.add_at.ensures ∙ ap (λ a. set ys p ((at ys p + a) % 6)) whole))
     (spread_more h q c.args.i (omega arith) (omega arith) own (c.list-c-items.ensures ∙ c.own-own.ensures.0)
     c.args.amount c.args.e c.args.elements.now c.loop-c.c-index ys (omega arith) c.loop-c.auto.elements c.loop-c.invariant)
 

@@ -8,8 +8,8 @@ use Rattle.words.proofs.words.WordsFamily.u_product.Goals as goal
 pub returns-then-i-self : goal.returns-then-i-self
 returns-then-i-self c = sym (u-product_past c.args.self.now.letters c.args.self.now.alphabet c.args.i (omega arith) _)
 
-pub overflow-add-sum : goal.overflow-add-sum
-overflow-add-sum c =
+pub overflow_add-sum : goal.overflow_add-sum
+overflow_add-sum c =
     omega (
       arith,
       c.loop-c.invariant.1,

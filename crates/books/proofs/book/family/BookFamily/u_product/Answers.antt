@@ -7,8 +7,8 @@ use Rattle.books.proofs.book.family.BookFamily.u_product.Goals as goal
 pub returns : goal.returns
 returns c =
     let b = c.args.self.now in
-    let x = c.u-row.result.now in
+    let x = c.u_row.result.now in
     let along : c.dot.result ≡ product (length x) (at x) (at c.args.row.now) = cc in
     along
     ∙ vector_product (vec_items b.bytes) 6 b.count b.dimension c.args.i b.counted b.wide x
-    c.u-row.ensures.digits c.u-row.ensures.length (at c.args.row.now)
+    c.u_row.ensures.digits c.u_row.ensures.length (at c.args.row.now)
