@@ -1,5 +1,5 @@
 // Books: families that are read from bytes and checked.
-pub mod family;
+pub mod as_family;
 mod rows;
 
 ghost use Rattle.std.specs.Prelude.{◌≡◌, ℕ, true, false, is_some, is_ok, Some, None, MatchResult};

@@ -18,7 +18,7 @@ vector_at-u-requires c =
     )
 
 pub second_start-second-requires : goal.second_start-second-requires
-second_start-second-requires c = let order = in_order c.args.bytes.now c.requires.order in (omega arith, omega arith)
+second_start-second-requires c = let order = in_order c.args.bytes.now c.requires.order in record { count_bound = omega arith; dimension_bound = omega arith }
 
 pub vector_at-v-requires : goal.vector_at-v-requires
 vector_at-v-requires c =

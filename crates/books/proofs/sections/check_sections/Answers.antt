@@ -18,7 +18,7 @@ take_digits-requires-2 c =
 
 pub returns-in_err-rest-3 : goal.returns-in_err-rest-3
 returns-in_err-rest-3 c =
-    let p = err_from_is_err_and c.from-residual-in_err-rest-3.result c.from-residual-in_err-rest-3.ensures.1 in
+    let p = err_from_is_err_and c.from_residual-in_err-rest-3.result c.from_residual-in_err-rest-3.ensures.1 in
     rw (p.1, p.2)
     (second_section c.args.count (c.args.count * c.args.dimension) c.args.whole c.args.rest.now _ _ _
     c.in_ok-rest.ensures c.in_ok-rest-2.ensures (stops _ _ _ c.in_err-rest-3.ensures))

@@ -10,7 +10,7 @@ use Rattle.books.proofs.book.Book.read.Goals as goal
 
 pub returns-in_err-report : goal.returns-in_err-report
 returns-in_err-report c =
-    let p = err_from_is_err_and c.from-residual.result c.from-residual.ensures.1 in
+    let p = err_from_is_err_and c.from_residual.result c.from_residual.ensures.1 in
     let fault : book_fault (vec_items c.args.bytes) ≡ Some c.in_err-report.field-0.0 =
     ap book_fault (sym c.as_slice.ensures.value) ∙ sym c.examine-report.ensures.verdict ∙ ap result_err c.in_err-report.was in
     rw (p.1, p.2)
@@ -37,7 +37,7 @@ invariant_of-result c =
     let value = c.as_slice.ensures.value in
     let told_count : c.unwrap-count.result ≡ count_of (vec_items c.args.bytes) = counted ∙ ap count_of value in
     let told_dimension : c.unwrap-dimension.result ≡ dimension_of (vec_items c.args.bytes) = wide ∙ ap dimension_of value in
-    (ap is_some (ap book_fault (sym value) ∙ none), search rules)
+    record { accepted = ap is_some (ap book_fault (sym value) ∙ none); counted = told_count; wide = told_dimension }
 
 pub returns : goal.returns
 returns c =

@@ -7,7 +7,7 @@ pub second_start-requires : goal.second_start-requires
 second_start-requires c =
     let b = c.args.self.now in
     let room = book_room (vec_items b.bytes) b.count b.dimension b.accepted b.counted b.wide in
-    (room.1, room.2)
+    record { count_bound = room.1; dimension_bound = room.2 }
 
 pub vector-requires : goal.vector-requires
 vector-requires c =

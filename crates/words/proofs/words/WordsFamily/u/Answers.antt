@@ -1,4 +1,4 @@
-use Rattle.std.proofs.Common.{sym, refl, ◌∙◌, arith}
+use Rattle.std.proofs.Common.{sym, ◌∙◌, eqb-true, eq-eqb, arith}
 use Rattle.std.proofs.lemmas.Bool.{false≢true}
 use Rattle.words.specs.Matching.{digit_past}
 use Rattle.words.proofs.Telling.{u_found, u_missing}
@@ -10,7 +10,7 @@ returns-then-contains c =
     let there = c.if-contains.ensures.cases in
     sym
     (u_found c.args.self.now.letters c.args.self.now.alphabet c.args.i (omega arith) (omega arith) _ (c.list.ensures ∙ c.own.ensures.0)
-    c.args.c there.0 there.1 ((there.2 0).0 refl))
+    c.args.c there.0 there.1 (eqb-true _ _ (there.2 0)))
 
 pub returns-else-i-self : goal.returns-else-i-self
 returns-else-i-self c =
@@ -19,6 +19,6 @@ returns-else-i-self c =
           let there = w.if-contains.ensures.cases in
           sym
           (u_missing c.args.self.now.letters c.args.self.now.alphabet c.args.i (omega arith) (omega arith) _ (w.list.ensures ∙ w.own.ensures.0)
-          c.args.c (λ k l e. false≢true ((there k 0 (omega arith) l).1 e)))
+          c.args.c (λ k l e. false≢true (sym (there k 0 (omega arith) l) ∙ eq-eqb _ _ e)))
       | else-i-self-via-else-i-self w ↦ sym (digit_past c.args.self.now.letters c.args.self.now.alphabet _ c.args.i c.args.c (omega arith))
     ]

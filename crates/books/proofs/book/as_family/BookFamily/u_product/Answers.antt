@@ -2,7 +2,7 @@ use Rattle.std.proofs.Common.{◌≡◌, length, vec_items, ◌∙◌}
 use Rattle.digits.specs.Rows.{at}
 use Rattle.digits.specs.Sums.{product}
 use Rattle.books.specs.Telling.{vector_product}
-use Rattle.books.proofs.book.family.BookFamily.u_product.Goals as goal
+use Rattle.books.proofs.book.as_family.BookFamily.u_product.Goals as goal
 
 pub returns : goal.returns
 returns c =
