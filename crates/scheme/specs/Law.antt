@@ -21,8 +21,8 @@ Recovers f =
     (tape : List ℕ) → Digits tape → (calls : List Call) (events : List Event) (end : State) → Run (ready (opened f tape)) calls events end →
     (g : Vectors) → MatchingFamily g → (t l m : ℕ) (p q one two : List ℕ) (shown : Event) →
     Follow calls events (request g t l m) (asked p q) (recover g one two) shown →
-    (a : ℕ → ℕ) → Table g a → (first-host second-host : List ℕ → List ℕ → List ℕ) → Answers g a first-host → Answers g a second-host →
-    one ≡ first-host p (zero_sheet g) → two ≡ second-host q (zero_sheet g) →
+    (a : ℕ → ℕ) → Table g a → (first_host second_host : List ℕ → List ℕ → List ℕ) → Answers g a first_host → Answers g a second_host →
+    one ≡ first_host p (zero_sheet g) → two ≡ second_host q (zero_sheet g) →
     shown ≡ recovered (Ok (a t))
 
 -- the host of the first queries, and that of the second
