@@ -1,7 +1,7 @@
 -- A position's letters, written from the last place to the first, and read by its own coordinates.
 use Rattle.std.proofs.Common.{◌≡◌, ℕ, zero, suc, ◌+◌, ◌-◌, ◌/◌, ◌%◌, ◌^◌, ◌<◌, ◌≤◌, List, [], ◌∷◌, map, length, take, set, sym, refl, ap, ◌∙◌, subst, ap₂, inl, inr, pow-suc, zero-add, div-one, arith}
 use native.Mathlib.Nat.{pow-zero, div-div-eq-div-mul}
-use Rattle.std.specs.List.{range_with_len, flat_map, AllByRecursion as All}
+use Rattle.std.specs.List.{range_with_len, flat_map, AllByRecursion}
 use Rattle.std.specs.Int.Digits.{number_from_digits}
 use Rattle.std.proofs.ByRecursion.{All-append, All-map, All-weaker, All-from_get_or}
 use Rattle.std.proofs.lemmas.List.FromFn.{length-range_with_len, get_or-range_with_len}
@@ -42,32 +42,32 @@ written_more h q t p word rest pos l short w = (
 )
 
 -- sets of places that have a property each
-choose_all : (P : ℕ → Type 0) (s : ℕ) (ps : List ℕ) → All P ps → All (All P) (choose s ps)
+choose_all : (P : ℕ → Type 0) (s : ℕ) (ps : List ℕ) → AllByRecursion P ps → AllByRecursion (AllByRecursion P) (choose s ps)
 unfolding choose
 choose_all P zero ps h = (tt, tt)
 choose_all P (suc s) [] h = tt
 choose_all P (suc s) (p ∷ ps) h =
-    All-append (All P) (map (λ places. p ∷ places) (choose s ps)) (choose (suc s) ps)
-    (All-map (All P) (λ places. p ∷ places) (choose s ps)
-    (All-weaker (All P) (λ places. All P (p ∷ places)) (λ places k. (h.0, k)) (choose s ps) (choose_all P s ps h.1)))
+    All-append (AllByRecursion P) (map (λ places. p ∷ places) (choose s ps)) (choose (suc s) ps)
+    (All-map (AllByRecursion P) (λ places. p ∷ places) (choose s ps)
+    (All-weaker (AllByRecursion P) (λ places. AllByRecursion P (p ∷ places)) (λ places k. (h.0, k)) (choose s ps) (choose_all P s ps h.1)))
     (choose_all P (suc s) ps h.1)
 
-sets_all : (P : ℕ → Type 0) (ps sizes : List ℕ) → All P ps → All (All P) (flat_map (λ s. choose s ps) sizes)
+sets_all : (P : ℕ → Type 0) (ps sizes : List ℕ) → AllByRecursion P ps → AllByRecursion (AllByRecursion P) (flat_map (λ s. choose s ps) sizes)
 sets_all P ps [] h = tt
-sets_all P ps (s ∷ sizes) h = All-append (All P) (choose s ps) (flat_map (λ s. choose s ps) sizes) (choose_all P s ps h) (sets_all P ps sizes h)
+sets_all P ps (s ∷ sizes) h = All-append (AllByRecursion P) (choose s ps) (flat_map (λ s. choose s ps) sizes) (choose_all P s ps h) (sets_all P ps sizes h)
 
-places_below : (P : ℕ → Type 0) (h : ℕ) → ((p : ℕ) → p < h → P p) → All P (range_with_len 0 h)
+places_below : (P : ℕ → Type 0) (h : ℕ) → ((p : ℕ) → p < h → P p) → AllByRecursion P (range_with_len 0 h)
 places_below P h f =
     All-from_get_or P (range_with_len 0 h) 0
     (λ i l.
     let low : i < h = omega (arith, length-range_with_len 0 h) in
     subst P (sym (get_or-range_with_len 0 h i 0 low ∙ zero-add i)) (f i low))
 
-map_same : (word other : ℕ → ℕ) (places : List ℕ) → All (λ p. word p ≡ other p) places → map word places ≡ map other places
+map_same : (word other : ℕ → ℕ) (places : List ℕ) → AllByRecursion (λ p. word p ≡ other p) places → map word places ≡ map other places
 map_same word other [] h = refl
 map_same word other (p ∷ places) h = ap₂ (λ a b. a ∷ b) h.0 (map_same word other places h.1)
 
-own_same : (q : ℕ) (word other : ℕ → ℕ) (start : ℕ) (sets : List (List ℕ)) → All (All (λ p. word p ≡ other p)) sets →
+own_same : (q : ℕ) (word other : ℕ → ℕ) (start : ℕ) (sets : List (List ℕ)) → AllByRecursion (AllByRecursion (λ p. word p ≡ other p)) sets →
     own_from q word start sets ≡ own_from q other start sets
 unfolding own_from
 own_same q word other start [] h = refl

@@ -1,7 +1,7 @@
 -- v is u times the weight of the coordinate's size.
 use Rattle.std.proofs.Common.{◌≡◌, ℕ, ◌+◌, ◌-◌, ◌*◌, ◌^◌, ◌<◌, ◌≤◌, ltb, List, [], ◌∷◌, ◌++◌, length, sym, ap, ◌∙◌, ap₂, inl, inr, not-suc-le-zero, mul_comm, one-mul, zero-mul, arith}
 use native.Mathlib.Nat.{pow-zero}
-use Rattle.std.specs.List.{range_with_len, AllByRecursion as All}
+use Rattle.std.specs.List.{range_with_len, AllByRecursion}
 use Rattle.std.proofs.lemmas.List.{append-nil}
 use Rattle.std.proofs.lemmas.List.Sums.{sum_by-cons}
 use Rattle.std.proofs.lemmas.Bool.{cases_lt, lt-ltb, le-ltb, cond-true, cond-false}
@@ -16,7 +16,7 @@ use Rattle.words.specs.Matching.{digit_at, digit_past}
 
 module _ (q : ℕ) (weight word : ℕ → ℕ) (rest : List (List ℕ)) where
   -- in the blocks of sets of one size
-  pub mark-within : (s : ℕ) (sets : List (List ℕ)) (c : ℕ) → All (λ places. length places ≡ s) sets → c < width q sets →
+  pub mark-within : (s : ℕ) (sets : List (List ℕ)) (c : ℕ) → AllByRecursion (λ places. length places ≡ s) sets → c < width q sets →
       mark q weight word (sets ++ rest) c ≡ mark q (λ s. 1) word (sets ++ rest) c * weight s
   mark-within s [] c h l = absurd (not-suc-le-zero l)
   mark-within s (places ∷ sets) c h l =
@@ -44,7 +44,7 @@ module _ (q : ℕ) (weight word : ℕ → ℕ) (rest : List (List ℕ)) where
       ∙ ap (mark q weight word rest) {x = c - block q places - width q sets} {y = c - width q (places ∷ sets)} (omega arith)
 
 -- in the blocks of sets of one size, or past them all
-mark_last : (q : ℕ) (weight word : ℕ → ℕ) (s : ℕ) (sets : List (List ℕ)) (c : ℕ) → All (λ places. length places ≡ s) sets →
+mark_last : (q : ℕ) (weight word : ℕ → ℕ) (s : ℕ) (sets : List (List ℕ)) (c : ℕ) → AllByRecursion (λ places. length places ≡ s) sets →
     mark q weight word (sets ++ []) c ≡ mark q (λ s. 1) word (sets ++ []) c * weight s
 mark_last q weight word s sets c h =
     elim (cases_lt c (width q sets)) [

@@ -2,7 +2,7 @@
 use Rattle.std.specs.Prelude.{◌≡◌, ℕ, zero, suc, ◌+◌, ◌*◌, ◌<◌, List, [], ◌∷◌, map, length, sum_by, ◌==◌}
 use Rattle.std.proofs.Math.Path.{refl, sym, ap, ap₂}
 use Rattle.std.proofs.Common.{◌∙◌}
-use Rattle.std.specs.List.{flat_map, AllByRecursion as All}
+use Rattle.std.specs.List.{flat_map, AllByRecursion}
 use Rattle.std.proofs.ByRecursion.{All-append, All-map, All-weaker}
 use Rattle.std.proofs.lemmas.List.Sums.{sum_by-cons, sum_by-append}
 use Rattle.digits.specs.Sums.{same}
@@ -13,7 +13,7 @@ use Rattle.words.specs.Binomials.{pascal}
 use Rattle.words.specs.ListSums.{sum_by-map, sum_by_cong, sum_by-same, sum_by_scale, sum_by_joined}
 use Rattle.words.specs.Readings.{same-reading}
 
-pub choose-sizes : (s : ℕ) (ps : List ℕ) → All (λ places. length places ≡ s) (choose s ps)
+pub choose-sizes : (s : ℕ) (ps : List ℕ) → AllByRecursion (λ places. length places ≡ s) (choose s ps)
 unfolding choose
 choose-sizes zero ps = (refl, tt)
 choose-sizes (suc s) [] = tt

@@ -1,7 +1,7 @@
 -- Laws of sums over a list.
 use Rattle.std.specs.Prelude.{◌≡◌, ℕ, ◌+◌, ◌*◌, List, [], ◌∷◌, map, length, sum_by, slice_index_or, refl}
 use Rattle.std.proofs.Common.{sym, ap, ap₂, ◌∙◌, zero-add, mul-zero, mul-add, one-add}
-use Rattle.std.specs.List.{flat_map, AllByRecursion as All}
+use Rattle.std.specs.List.{flat_map, AllByRecursion}
 use Rattle.std.proofs.lemmas.List.Sums.{sum_by-cons, sum_by-append}
 use Rattle.digits.specs.Sums.{total}
 use Rattle.digits.proofs.Sums.{total-append, total_cong}
@@ -11,7 +11,7 @@ sum_by-map f g [] = refl
 sum_by-map f g (x ∷ xs) =
     sum_by-cons f (g x) (map g xs) ∙ ap (λ a. f (g x) + a) (sum_by-map f g xs) ∙ sym (sum_by-cons (λ x. f (g x)) x xs)
 
-pub sum_by_cong : {X : Type 0} (f g : X → ℕ) (xs : List X) → All (λ x. f x ≡ g x) xs → sum_by f xs ≡ sum_by g xs
+pub sum_by_cong : {X : Type 0} (f g : X → ℕ) (xs : List X) → AllByRecursion (λ x. f x ≡ g x) xs → sum_by f xs ≡ sum_by g xs
 sum_by_cong f g [] h = refl
 sum_by_cong f g (x ∷ xs) h =
     sum_by-cons f x xs ∙ ap₂ (λ a b. a + b) h.0 (sum_by_cong f g xs h.1) ∙ sym (sum_by-cons g x xs)
