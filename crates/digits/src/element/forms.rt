@@ -4,8 +4,8 @@ ghost use Rattle.digits.specs.Elements.{same_element, zero_element};
 ghost use Rattle.digits.specs.Refusals.{long_fault, row_fault};
 ghost use Rattle.digits.specs.Rows.{at};
 ghost use Rattle.std.specs.Cmp.Rules.{comparing};
-ghost use Rattle.std.proofs.Common.{rules, arith};
-ghost use Rattle.std.specs.Cmp as Keys;
+ghost use Rattle.std.specs.Cmp.{partial_equiv_from_equiv};
+ghost use Rattle.std.proofs.Common.{rules};
 
 use crate::element::Element;
 use crate::rows::{check_length, check_row};
@@ -51,7 +51,7 @@ impl Element {
 impl PartialEq for Element {
     ghost eq = { λ e f. same_element e.digits f.digits };
 
-    ghost laws = { Keys.partial_equiv_from_equiv (first_of (Prim.search (comparing, rules), Prim.grind (arith, Self.row.coded.inj))) };
+    ghost laws = { partial_equiv_from_equiv (Prim.search (comparing, rules)) };
 
     fn eq(&self, other: &Element) -> bool {
         let a = self.digits;
@@ -61,5 +61,5 @@ impl PartialEq for Element {
 }
 
 impl Eq for Element {
-    ghost laws = { first_of (Prim.search (comparing, rules), Prim.grind (arith, Self.row.coded.inj)) };
+    ghost laws = { Prim.search (comparing, rules) };
 }
