@@ -1,4 +1,4 @@
-use Rattle.std.proofs.Common.{◌≡◌, is_some, Some, None, vec_items, sym, refl, ap, ◌∙◌}
+use Rattle.std.proofs.Common.{◌≡◌, is_some, Some, None, vec_items, sym, refl, ap, ◌∙◌, rules}
 use Rattle.std.specs.Result.{result_err}
 use Rattle.std.proofs.lemmas.Result.{err_from_is_err_and}
 use Rattle.std.proofs.lemmas.Bool.{false≢true}
@@ -37,7 +37,7 @@ invariant_of-result c =
     let value = c.as_slice.ensures.value in
     let told_count : c.unwrap-count.result ≡ count_of (vec_items c.args.bytes) = counted ∙ ap count_of value in
     let told_dimension : c.unwrap-dimension.result ≡ dimension_of (vec_items c.args.bytes) = wide ∙ ap dimension_of value in
-    record { accepted = ap is_some (ap book_fault (sym value) ∙ none); counted = told_count; wide = told_dimension }
+    record { accepted = ap is_some (ap book_fault (sym value) ∙ none); counted = search rules; wide = search rules }
 
 pub returns : goal.returns
 returns c =
