@@ -1,5 +1,5 @@
 // Rows of digits: reading a digit, adding to one, and refusing a row that is none.
-ghost use Rattle.std.specs.Prelude.{◌≡◌, ◌+◌, ◌%◌, length, Some, None, MatchResult, OnOk, slice_set};
+ghost use Rattle.std.specs.Prelude.{◌≡◌, ◌+◌, ◌%◌, ◌<◌, length, Some, None, MatchOption, MatchResult, OnOk, slice_set};
 ghost use Rattle.digits.specs.Refusals.{digits_fault, lone_fault, long_fault, row_fault};
 ghost use Rattle.digits.specs.Rows.{at, Digits, first_above};
 
@@ -12,16 +12,11 @@ pub fn digit_at(row: &[u8], place: usize) -> u8
     if place < row.len() { row[place] } else { 0 }
 }
 
-// The place of the first byte above 5, or the row's length where each is a digit.
-pub fn first_above(row: &[u8]) -> usize
-    ensures { result ≡ first_above row.now }
+// The place of the first byte above 5, if there is one.
+pub fn first_above(row: &[u8]) -> Option<usize>
+    ensures { MatchOption result (first_above row.now ≡ length row.now) (λ i. (i ≡ first_above row.now) × (i < length row.now)) }
 {
-    for (i, x) in row.iter().enumerate() {
-        if *x > 5 {
-            return i;
-        }
-    }
-    row.len()
+    row.iter().position(|x| *x > 5)
 }
 
 // Refuses a lone digit above 5, which has place 0.
@@ -52,11 +47,9 @@ pub fn check_digits(row: &[u8]) -> Result<(), Fault>
     ensures cases { MatchResult result (λ _. digits_fault row.now ≡ None) (λ e. digits_fault row.now ≡ Some e) }
     ensures fits { OnOk result (Digits row.now) }
 {
-    let place = first_above(row);
-    if place == row.len() {
-        Ok(())
-    } else {
-        Err(Fault::digit(place))
+    match first_above(row) {
+        None => Ok(()),
+        Some(place) => Err(Fault::digit(place)),
     }
 }
 
