@@ -4,3 +4,4 @@ pub mod RowLaws
 pub mod Stretches
 pub mod Sums
 pub mod Turning
+pub mod Zips

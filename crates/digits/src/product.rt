@@ -1,7 +1,8 @@
 // The product of two vectors of digits.
-ghost use Rattle.std.specs.Prelude.{◌≡◌, ◌*◌, ◌≤◌, length, Some, None, MatchResult};
+ghost use Rattle.std.specs.Prelude.{◌≡◌, ◌*◌, ◌≤◌, length, Some, None, MatchResult, sum_by};
+ghost use Rattle.std.specs.List.{zip};
 ghost use Rattle.digits.specs.Rows.{at};
-ghost use Rattle.digits.specs.Sums.{total, product};
+ghost use Rattle.digits.specs.Sums.{product};
 ghost use Rattle.digits.specs.Refusals.{vectors_fault};
 
 use crate::rows::{check_digits, check_length};
@@ -10,31 +11,21 @@ use faults::Fault;
 // So many products of two bytes sum up in 32 bits, so the remainder can wait until after them.
 const STRETCH: usize = 4096;
 
-// The plain sum of the products along two rows of one length, not reduced.
+// The plain sum of the products along two rows, as far as both go, of which the first is no longer than a stretch.
 fn plain_sum(a: &[u8], b: &[u8]) -> u32
-    requires a_len_bound { length a.now ≤ 4096 }
-    requires b_len { length b.now ≡ length a.now }
-    ensures value { result ≡ total (length a.now) (λ c. at a.now c * at b.now c) }
-    ensures bound { result ≤ 255 * 255 * 4096 }
+    requires { length a.now ≤ 4096 }
+    ensures { result ≡ sum_by (λ p. p.0 * p.1) (zip a.now b.now) }
 {
-    let mut sum = 0;
-    for i in 0..a.len() {
-        sum += u32::from(a[i]) * u32::from(b[i]);
-    }
-    sum
+    a.iter().zip(b).map(|(x, y)| u32::from(*x) * u32::from(*y)).sum()
 }
 
 // The product of two rows of any length, modulo 6; digits past a row's end count as 0. (The usual word is dot product.)
 pub fn dot(a: &[u8], b: &[u8]) -> u8
     ensures { result ≡ product (length a.now) (at a.now) (at b.now) }
 {
-    let n = a.len().min(b.len());
     let mut sum = 0;
-    let mut done = 0;
-    while done < n {
-        let end = done + STRETCH.min(n - done);
-        sum = (sum + plain_sum(&a[done..end], &b[done..end])) % 6;
-        done = end;
+    for (x, y) in a.chunks(STRETCH).zip(b.chunks(STRETCH)) {
+        sum = (sum + plain_sum(x, y) % 6) % 6;
     }
     sum as u8
 }

@@ -1,29 +1,25 @@
-use Rattle.std.proofs.Common.{◌≡◌, ℕ, ◌+◌, ◌-◌, ◌*◌, ◌≤◌, List, length, sym, ap, ◌∙◌, arith}
-use Rattle.digits.specs.Rows.{at}
-use Rattle.digits.specs.Sums.{total}
-use Rattle.digits.proofs.Sums.{product_none, total-append}
-use Rattle.digits.proofs.Stretches.{total_stretch, product_shorter}
+use Rattle.std.proofs.Common.{◌≡◌, ℕ, ◌⊎◌, length, inl, inr, ap, ap₂, sym, ◌∙◌, arith}
+use Rattle.digits.proofs.Zips.{zipped, zipped_total, zipped_done, stretch_more}
 use Rattle.digits.proofs.product.dot.Goals as goal
 
-pub overflow_add-sum : goal.overflow_add-sum
-overflow_add-sum c = omega (arith, c.plain_sum.ensures.bound, c.loop-done.invariant.0)
+pub loop-x-init : goal.loop-x-init
+loop-x-init c =
+    let whole : zipped c.into_iter-x-iterator.result.a.rest.now c.into_iter-x-iterator.result.b.rest.now ≡ zipped c.args.a.now c.args.b.now = cc in
+    (omega (arith, whole, zipped_total c.args.a.now c.args.b.now), omega arith, cc, cc)
 
-pub loop-done-init : goal.loop-done-init
-loop-done-init c = (sym (product_none (at c.args.a.now) (at c.args.b.now)), omega arith)
-
-pub loop-done-preserved : goal.loop-done-preserved
-loop-done-preserved c =
-    let a : List ℕ = c.args.a.now in
-    let b : List ℕ = c.args.b.now in
-    let m : ℕ = c.loop-done.done in
-    let n : ℕ = c.min.result in
-    let whole : m + (m + n - m) ≤ length a = omega arith in
-    let more : c.plain_sum.result ≡ total n (λ i. at a (m + i) * at b (m + i)) =
-    c.plain_sum.ensures.value ∙ total_stretch m (m + n - m) a b whole ∙ ap (λ k. total k (λ i. at a (m + i) * at b (m + i))) (omega arith) in
-    let both = total-append m n (λ i. at a i * at b i) in
-    (omega (arith, c.loop-done.invariant.0), omega arith)
+pub loop-x-preserved : goal.loop-x-preserved
+loop-x-preserved c =
+    let a = c.in-Some.ensures.steps.0 in
+    let b = c.in-Some.ensures.steps.1 in (
+      stretch_more 4096 _ _ _ _ _ _ _ _ _ _ c.loop-x.invariant.2 c.loop-x.invariant.3 a.1.0 b.1.0 a.1.1 b.1.1 c.plain_sum.ensures
+      ∙ c.loop-x.invariant.0,
+      omega arith,
+      omega (arith, a.0),
+      omega (arith, b.0),
+    )
 
 pub returns : goal.returns
 returns c =
-    c.loop-done.invariant.0
-    ∙ product_shorter c.loop-done.done c.args.a.now c.args.b.now (omega arith)
+    let ended : (length c.loop-x.x-iterator.a.rest.now ≡ 0) ⊎ (length c.loop-x.x-iterator.b.rest.now ≡ 0) =
+    elim c.in-None.ensures.steps [ inl u ↦ inl u.1.1.0 | inr u ↦ inr u.1.1.0 ] in
+    omega (arith, c.loop-x.invariant.0, zipped_done c.loop-x.x-iterator.a.rest.now c.loop-x.x-iterator.b.rest.now ended)
