@@ -3,7 +3,7 @@ ghost use Rattle.digits.specs.Rows.{Digits};
 
 // An element of the ring that answers are reckoned in: the polynomials in g with digits modulo 6, where g^6 = 1. (The
 // usual name is the group ring of the cyclic group of order 6.) Its type says that each of its six numbers is a digit.
-#[derive(Clone, Copy)]
+#[derive(Clone, Copy, PartialEq, Eq)]
 pub struct Element {
     digits: [u8; 6],
     ghost small: { Digits digits },

@@ -14,8 +14,9 @@ pub fn draw(bytes: &[u8], tape: &mut [u8]) -> Result<(), Fault>
         (λ f. (long_fault (length tape.old) bytes.now ≡ Some f) × (tape.new ≡ tape.old)) }
 {
     check_length(bytes, tape.len())?;
-    for i in 0..tape.len() {
-        tape[i] = bytes[i] % 6;
+    tape.copy_from_slice(bytes);
+    for digit in tape.iter_mut() {
+        *digit %= 6;
     }
     Ok(())
 }

@@ -1,11 +1,8 @@
 // Elements made, read from rows of six digits, written to them, and looked at digit by digit.
 ghost use Rattle.std.specs.Prelude.{◌≡◌, ◌%◌, Some, None, MatchResult};
-ghost use Rattle.digits.specs.Elements.{same_element, zero_element};
+ghost use Rattle.digits.specs.Elements.{zero_element};
 ghost use Rattle.digits.specs.Refusals.{long_fault, row_fault};
 ghost use Rattle.digits.specs.Rows.{at};
-ghost use Rattle.std.specs.Cmp.Rules.{comparing};
-ghost use Rattle.std.specs.Cmp.{partial_equiv_from_equiv};
-ghost use Rattle.std.proofs.Common.{rules};
 
 use crate::element::Element;
 use crate::rows::{check_length, check_row};
@@ -46,20 +43,4 @@ impl Element {
     {
         self.digits[r % 6]
     }
-}
-
-impl PartialEq for Element {
-    ghost eq = { λ e f. same_element e.digits f.digits };
-
-    ghost laws = { partial_equiv_from_equiv (Prim.search (comparing, rules)) };
-
-    fn eq(&self, other: &Element) -> bool {
-        let a = self.digits;
-        let b = other.digits;
-        a[0] == b[0] && a[1] == b[1] && a[2] == b[2] && a[3] == b[3] && a[4] == b[4] && a[5] == b[5]
-    }
-}
-
-impl Eq for Element {
-    ghost laws = { Prim.search (comparing, rules) };
 }

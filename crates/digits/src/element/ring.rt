@@ -99,16 +99,8 @@ impl Element {
     pub fn scaled(&self, by: u8) -> Element
         ensures { result.digits ≡ scaled by self.now.digits }
     {
-        let e = self.digits;
         Element {
-            digits: [
-                multiplied(by, e[0]),
-                multiplied(by, e[1]),
-                multiplied(by, e[2]),
-                multiplied(by, e[3]),
-                multiplied(by, e[4]),
-                multiplied(by, e[5]),
-            ],
+            digits: self.digits.map(|digit| multiplied(by, digit)),
         }
     }
 }

@@ -1,7 +1,9 @@
--- The bytes so far are drawn.
-use Rattle.std.proofs.Common.{◌≡◌, ℕ, ◌%◌, ◌<◌}
+-- The bytes so far are reduced, and the others stand as they came.
+use Rattle.std.proofs.Common.{◌≡◌, ℕ, ◌%◌, ◌<◌, ◌≤◌}
 use Rattle.digits.specs.Rows.{at}
 use Rattle.digits.proofs.tape.draw.Given as goal
 
-abbrev pub invariant-loop-i : goal.invariant-loop-i
-invariant-loop-i l = (k : ℕ) → k < l.i → at l.tape k ≡ at l.bytes k % 6
+abbrev pub invariant-loop-digit : goal.invariant-loop-digit
+invariant-loop-digit l =
+    ((k : ℕ) → k < l.digit-index → at l.tape k ≡ at l.bytes k % 6)
+    × ((k : ℕ) → l.digit-index ≤ k → at l.tape k ≡ at l.bytes k)
