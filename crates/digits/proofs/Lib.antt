@@ -1,3 +1,4 @@
+pub mod Equality
 pub mod Multiplying
 pub mod Passing
 pub mod RowLaws

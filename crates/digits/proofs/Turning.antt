@@ -1,9 +1,10 @@
 -- Turning an element is dividing it by a power of g.
-use Rattle.std.proofs.Common.{◌≡◌, ℕ, ◌+◌, ◌-◌, ◌*◌, ◌%◌, ◌<◌, List, sym, refl, ap, ◌∙◌, one-mul, zero-mul, arith}
+use Rattle.std.proofs.Common.{◌≡◌, ℕ, ◌+◌, ◌-◌, ◌*◌, ◌%◌, ◌<◌, List, ◌++◌, length, take, drop, sym, refl, ap, ◌∙◌, one-mul, zero-mul, length-append, length-drop, length-take, arith}
+use Rattle.std.proofs.lemmas.List.FromFn.{fill_by_all}
 use Rattle.digits.specs.Elements.{power, times, turned}
 use Rattle.digits.specs.Rows.{at, Digits}
 use Rattle.digits.specs.Sums.{same}
-use Rattle.digits.proofs.RowLaws.{at_row}
+use Rattle.digits.proofs.RowLaws.{at_row, at_rotated}
 use Rattle.digits.proofs.Multiplying.{at-times}
 use Rattle.digits.proofs.Sums.{total_only, same_yes, same_no}
 
@@ -32,3 +33,10 @@ turned_divides s e x d is r h =
     ∙ ap (λ a. a % 6) (at_row 6 (λ q. at e ((q + s) % 6)) ((r + 6 - s % 6) % 6) (omega arith))
     ∙ ap (λ q. at e q % 6) back
     ∙ omega (arith, d r)
+
+-- six digits turned to the left are divided by the power that leads to the place they began at
+pub rotated_turned : (s : ℕ) (e x : List ℕ) → length e ≡ 6 → x ≡ drop (s % 6) e ++ take (s % 6) e → x ≡ turned s e
+rotated_turned s e x six is =
+    fill_by_all (λ r. at e ((r + s) % 6)) x 6 0
+    (ap length is ∙ omega (arith, length-append (drop (s % 6) e) (take (s % 6) e), length-drop (s % 6) e, length-take (s % 6) e))
+    (λ r h. ap (λ y. at y r) is ∙ at_rotated e (s % 6) r six (omega arith) h ∙ ap (at e) (omega arith))

@@ -1,9 +1,9 @@
 -- The plain sum of the products of two rows, taken along both at once, and stretch by stretch.
-use Rattle.std.proofs.Common.{◌≡◌, ℕ, zero, suc, ◌+◌, ◌*◌, ◌%◌, ◌<◌, ◌⊎◌, inl, inr, min, List, [], ◌∷◌, ◌++◌, length, sum_by, refl, ap, ◌∙◌, sym, subst, mul-zero, length-append, arith}
+use Rattle.std.proofs.Common.{◌≡◌, ℕ, zero, suc, ◌+◌, ◌*◌, ◌%◌, ◌<◌, ◌⊎◌, inl, inr, min, List, [], ◌∷◌, ◌++◌, length, sum_by, refl, ap, ◌∙◌, sym, mul-zero, length-append, arith}
 use Rattle.std.specs.List.{zip}
 use Rattle.std.proofs.lemmas.List.Sums.{sum_by-cons}
 use Rattle.digits.specs.Rows.{at}
-use Rattle.digits.specs.Sums.{total, product}
+use Rattle.digits.specs.Sums.{total}
 use Rattle.digits.proofs.Sums.{total_none, total_start}
 
 -- the sum as a chain of iterators takes it

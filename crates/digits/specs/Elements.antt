@@ -14,8 +14,11 @@ abbrev pub plus : List ℕ → List ℕ → List ℕ
 plus e f = row 6 (λ r. (at e r + at f r) % 6)
 
 -- digit r of a product: the sum of all e(i) f(j) where i + j leaves r modulo 6
+unfoldable pub times_digit : List ℕ → List ℕ → ℕ → ℕ
+times_digit e f r = total 6 (λ i. total 6 (λ j. at e i * at f j * same ((i + j) % 6) r)) % 6
+
 abbrev pub times : List ℕ → List ℕ → List ℕ
-times e f = row 6 (λ r. total 6 (λ i. total 6 (λ j. at e i * at f j * same ((i + j) % 6) r)) % 6)
+times e f = row 6 (times_digit e f)
 
 -- every digit times a number
 abbrev pub scaled : ℕ → List ℕ → List ℕ

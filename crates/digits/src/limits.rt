@@ -8,7 +8,7 @@ use faults::{Fault, Layer};
 pub fn check_limits(layer: Layer, low: usize, high: usize, found: usize) -> Result<(), Fault>
     ensures { MatchResult result (λ _. limit_fault layer low high found ≡ None) (λ e. limit_fault layer low high found ≡ Some e) }
 {
-    if low <= found && found <= high {
+    if (low..=high).contains(&found) {
         Ok(())
     } else {
         Err(Fault::size(layer, found))

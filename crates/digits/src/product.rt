@@ -16,7 +16,10 @@ fn plain_sum(a: &[u8], b: &[u8]) -> u32
     requires { length a.now ≤ 4096 }
     ensures { result ≡ sum_by (λ p. p.0 * p.1) (zip a.now b.now) }
 {
-    a.iter().zip(b).map(|(x, y)| u32::from(*x) * u32::from(*y)).sum()
+    a.iter()
+        .zip(b)
+        .map(|(x, y)| u32::from(*x) * u32::from(*y))
+        .sum()
 }
 
 // The product of two rows of any length, modulo 6; digits past a row's end count as 0. (The usual word is dot product.)

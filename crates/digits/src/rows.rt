@@ -9,7 +9,7 @@ use faults::Fault;
 pub fn digit_at(row: &[u8], place: usize) -> u8
     ensures { result ≡ at row.now place }
 {
-    if place < row.len() { row[place] } else { 0 }
+    row.get(place).copied().unwrap_or(0)
 }
 
 // The place of the first byte above 5, if there is one.

@@ -5,7 +5,7 @@ ghost use Rattle.digits.specs.Refusals.{long_fault, row_fault};
 ghost use Rattle.digits.specs.Rows.{at};
 
 use crate::element::Element;
-use crate::rows::{check_length, check_row};
+use crate::rows::{check_digits, check_length};
 use faults::Fault;
 
 impl Element {
@@ -14,16 +14,6 @@ impl Element {
         ensures { result.digits ≡ zero_element }
     {
         Element { digits: [0; 6] }
-    }
-
-    // The element that a row of six digits holds; any other row is refused.
-    pub fn read(row: &[u8]) -> Result<Element, Fault>
-        ensures { MatchResult result (λ e. (row_fault 6 row.now ≡ None) × (e.digits ≡ row.now)) (λ f. row_fault 6 row.now ≡ Some f) }
-    {
-        check_row(row, 6)?;
-        Ok(Element {
-            digits: [row[0], row[1], row[2], row[3], row[4], row[5]],
-        })
     }
 
     // Writes the six digits into a row of that length; any other row is refused and stays as it was.
@@ -42,5 +32,20 @@ impl Element {
         ensures { result ≡ at self.now.digits (r % 6) }
     {
         self.digits[r % 6]
+    }
+}
+
+// The element that a row of six digits holds; any other row is refused.
+impl TryFrom<&[u8]> for Element {
+    type Error = Fault;
+
+    ghost try_from_gives = { λ row result. MatchResult result (λ e. (row_fault 6 row.now ≡ None) × (e.digits ≡ row.now)) (λ f. row_fault 6 row.now ≡ Some f) };
+
+    fn try_from(row: &[u8]) -> Result<Element, Fault> {
+        let Some(digits) = row.as_array() else {
+            return Err(Fault::length(row.len()));
+        };
+        check_digits(row)?;
+        Ok(Element { digits: *digits })
     }
 }

@@ -1,4 +1,4 @@
-use Rattle.std.proofs.Common.{◌≡◌, ℕ, ◌⊎◌, length, inl, inr, ap, ap₂, sym, ◌∙◌, arith}
+use Rattle.std.proofs.Common.{◌≡◌, ◌⊎◌, length, inl, inr, ◌∙◌, arith}
 use Rattle.digits.proofs.Zips.{zipped, zipped_total, zipped_done, stretch_more}
 use Rattle.digits.proofs.product.dot.Goals as goal
 
@@ -12,7 +12,7 @@ loop-x-preserved c =
     let a = c.in-Some.ensures.steps.0 in
     let b = c.in-Some.ensures.steps.1 in (
       stretch_more 4096 _ _ _ _ _ _ _ _ _ _ c.loop-x.invariant.2 c.loop-x.invariant.3 a.1.0 b.1.0 a.1.1 b.1.1 c.plain_sum.ensures
-      ∙ c.loop-x.invariant.0,
+          ∙ c.loop-x.invariant.0,
       omega arith,
       omega (arith, a.0),
       omega (arith, b.0),

@@ -1,5 +1,5 @@
 -- The library's place of the first item that passes, in the definition's words.
-use Rattle.std.proofs.Common.{◌≡◌, ◌<◌, ℕ, List, length, Option, MatchOption, ltb, ◌∙◌, inl, inr, sym, subst, rules, tests, arith}
+use Rattle.std.proofs.Common.{◌≡◌, ◌<◌, ℕ, List, length, Option, MatchOption, ltb, ◌∙◌, inl, inr, rules, tests, arith}
 use Rattle.std.specs.List.{position, position_or_len}
 use Rattle.std.proofs.lemmas.Iterator.{YieldsList-from_slice}
 use Rattle.std.proofs.lemmas.Iterator.Search.{position_from_yields_List}

@@ -1,4 +1,4 @@
-use Rattle.std.proofs.Common.{◌%◌, length, arith, rules}
+use Rattle.std.proofs.Common.{◌%◌, length, arith}
 use Rattle.std.proofs.lemmas.List.FromFn.{fill_by_all}
 use Rattle.digits.specs.Rows.{at}
 use Rattle.digits.proofs.tape.draw.Goals as goal

@@ -1,10 +1,8 @@
-use Rattle.std.proofs.Common.{◌≡◌, ℕ, List, [], ◌∷◌, rules}
-use Rattle.digits.specs.Elements.{turned}
-use Rattle.digits.proofs.Turning.{turned_divides}
+use Rattle.std.proofs.Common.{rules}
+use Rattle.digits.proofs.Turning.{turned_divides, rotated_turned}
 use Rattle.digits.proofs.element.Element.turned.Goals as goal
 
-pub returns : goal.returns
-returns c =
-    let six : List ℕ = c.digit.result ∷ c.digit-2.result ∷ c.digit-3.result ∷ c.digit-4.result ∷ c.digit-5.result ∷ c.digit-6.result ∷ [] in
-    let same : six ≡ turned c.args.s c.args.self.now.digits = search rules in
-    record { value = same; divides = turned_divides c.args.s c.args.self.now.digits six c.args.self.now.small same }
+pub returns-clause-divides : goal.returns-clause-divides
+returns-clause-divides c =
+    let e = c.args.self.now in
+    turned_divides c.args.s e.digits c.rotate_left.new.self e.small (rotated_turned c.args.s e.digits c.rotate_left.new.self (search rules) c.rotate_left.ensures.after)
