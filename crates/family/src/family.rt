@@ -5,7 +5,7 @@ ghost use Rattle.digits.specs.Sums.{product};
 ghost use Rattle.family.specs.Spread.{spread};
 ghost use Rattle.family.specs.Vectors.{Vectors, MatchingFamily};
 
-use digits::{add_at, digit_at};
+use digits::add_at;
 
 // A matching family: for each position i below a count, two vectors of digits u(i) and v(i) of one dimension, such
 // that u(i) times v(i) is 0 and u(i) times v(j) is 1, 3 or 4 for all i other than j. (The usual name is a matching
@@ -35,8 +35,9 @@ pub trait Family {
         ensures { result ≡ product (vectors self.now).dim ((vectors self.now).u i) (at row.now) }
     {
         let mut sum = 0;
-        for c in 0..self.dimension() {
-            sum = (sum + u32::from(self.u(i, c)) * u32::from(digit_at(row, c))) % 6;
+        let within = row.len().min(self.dimension());
+        for (c, digit) in row[..within].iter().enumerate() {
+            sum = (sum + u32::from(self.u(i, c)) * u32::from(*digit)) % 6;
         }
         sum as u8
     }

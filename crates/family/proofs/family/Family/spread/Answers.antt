@@ -1,4 +1,4 @@
-use Rattle.std.proofs.Common.{◌≡◌, ℕ, ◌+◌, ◌*◌, ◌%◌, List, set, sym, ◌∙◌, subst, ap₂, arith}
+use Rattle.std.proofs.Common.{◌≡◌, ℕ, ◌+◌, ◌*◌, ◌%◌, List, set, sym, ◌∙◌, subst, arith}
 use Rattle.digits.specs.Rows.{at}
 use Rattle.family.specs.Spreads.{Passed, skips, adds, all_passed}
 use Rattle.family.proofs.family.Family.spread.Goals as goal
@@ -15,7 +15,8 @@ loop-c-preserved g c =
       | then-d-ne0 w ↦
           let whole : w.from.result ≡ c.args.amount = cc in
           let digit : w.from-then-d-ne0.result ≡ c.u-d.result = cc in
-          subst next (sym (w.elements-is ∙ w.add_at.ensures ∙ ap₂ (λ a d. set ys p ((at ys p + a * d) % 6)) whole digit))
+          let after : c.if-d-ne0.elements ≡ set ys p ((at ys p + c.args.amount * c.u-d.result) % 6) = simp (whole, digit) at (w.elements-is ∙ w.add_at.ensures) in
+          subst next (sym after)
           (adds u c.args.amount c.args.e c.loop-c.c xs ys c.loop-c.invariant p c.u-d.result (omega arith) (omega arith) c.u-d.ensures (omega arith))
       | else-d-ne0 w ↦
           subst next (sym w.elements-is)
