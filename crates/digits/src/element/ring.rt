@@ -9,28 +9,14 @@ use crate::product::dot;
 use std::array;
 use std::ops::{Add, Mul};
 
-// The sum of two bytes, modulo 6.
-fn added(a: u8, b: u8) -> u8
-    ensures { result ≡ (a + b) % 6 }
-{
-    ((u32::from(a) + u32::from(b)) % 6) as u8
-}
-
-// The product of two bytes, modulo 6.
-fn multiplied(a: u8, b: u8) -> u8
-    ensures { result ≡ a * b % 6 }
-{
-    ((u32::from(a) * u32::from(b)) % 6) as u8
-}
-
 impl Add for Element {
     type Output = Element;
 
-    fn add(self, other: Element) -> Element
-        ensures { result.digits ≡ plus self.digits other.digits }
-    {
+    ghost add_gives = { λ e f sum. sum.digits ≡ plus e.digits f.digits };
+
+    fn add(self, other: Element) -> Element {
         Element {
-            digits: array::from_fn(|r| added(self.digits[r], other.digits[r])),
+            digits: array::from_fn(|r| (self.digits[r] + other.digits[r]) % 6),
         }
     }
 }
@@ -51,9 +37,9 @@ fn product_digit(a: &Element, b: &Element, r: usize) -> u8
 impl Mul for Element {
     type Output = Element;
 
-    fn mul(self, other: Element) -> Element
-        ensures { result.digits ≡ times self.digits other.digits }
-    {
+    ghost mul_gives = { λ e f product. product.digits ≡ times e.digits f.digits };
+
+    fn mul(self, other: Element) -> Element {
         Element {
             digits: array::from_fn(|r| product_digit(&self, &other, r)),
         }
@@ -76,7 +62,9 @@ impl Element {
         ensures { result.digits ≡ scaled by self.now.digits }
     {
         Element {
-            digits: self.digits.map(|digit| multiplied(by, digit)),
+            digits: self
+                .digits
+                .map(|digit| (u32::from(by) * u32::from(digit) % 6) as u8),
         }
     }
 }
