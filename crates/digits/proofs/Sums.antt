@@ -1,5 +1,5 @@
 -- Laws of `total`, of products of vectors and of `same`.
-use Rattle.std.proofs.Common.{◌≡◌, ℕ, zero, suc, ◌+◌, ◌*◌, ◌%◌, ◌<◌, ◌≤◌, eqb, sym, refl, ap, ◌∙◌, ap₂, inl, inr, not-suc-le-zero, add-zero, add_assoc, add-suc, mul-le-mul, zero-add, zero-mul, add-one, arith}
+use Rattle.std.proofs.Common.{◌≡◌, ℕ, zero, suc, ◌+◌, ◌*◌, ◌%◌, ◌<◌, eqb, sym, refl, ap, ◌∙◌, ap₂, inl, inr, not-suc-le-zero, add-zero, add_assoc, add-suc, zero-add, zero-mul, add-one, arith}
 use Rattle.std.proofs.lemmas.Bool.{cases_eq, eq-eqb, ne_eqb, cond-true, cond-false}
 use Rattle.digits.specs.Sums.{total, product, same}
 
@@ -74,13 +74,6 @@ product_past m n x y h =
     let more = total-append m n (λ c. x c * y c) in
     let rest = total_none n (λ c. x (m + c) * y (m + c)) (λ c b. h c) in
     omega arith
-
--- the product of two bytes, and of two digits
-pub bytes_product : (a b : ℕ) → a < 256 → b < 256 → a * b ≤ 65025
-bytes_product a b ha hb = mul-le-mul {n₁ = a} {m₁ = b} {n₂ = 255} {m₂ = 255} (omega arith) (omega arith)
-
-pub digits_product : (a b : ℕ) → a < 6 → b < 6 → a * b ≤ 25
-digits_product a b ha hb = mul-le-mul {n₁ = a} {m₁ = b} {n₂ = 5} {m₂ = 5} (omega arith) (omega arith)
 
 -- the test of two numbers as a digit
 pub same_yes : (a b : ℕ) → a ≡ b → same a b ≡ 1
