@@ -47,7 +47,7 @@ pub trait Family {
     fn spread(&self, i: usize, amount: u8, e: usize, elements: &mut [u8])
         ensures { elements.new ≡ spread ((vectors self.now).u i) amount e elements.old }
     {
-        // a family tells one digit at a time, so there is no row of u to go along, and the elements are passed over where it is 0
+        // a family tells one digit at a time, so there is no row of u to go along
         for c in 0..self.dimension() {
             let d = self.u(i, c);
             if d != 0 {
