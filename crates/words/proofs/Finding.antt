@@ -1,114 +1,157 @@
--- The steps by which a word's own coordinates are found.
-use Rattle.std.proofs.Common.{◌≡◌, ℕ, suc, ◌+◌, ◌-◌, ◌*◌, ◌<◌, ◌≤◌, List, [], ◌∷◌, ◌++◌, map, length, set, replicate, sym, refl, ap, ◌∙◌, subst, ap₂, mul-le-mul, zero-add, zero-mul, arith}
-use native.Mathlib.Nat.{pow-zero}
+-- The steps by which a position's own coordinates are found.
+use Rattle.std.proofs.Common.{◌≡◌, ℕ, suc, ◌+◌, ◌-◌, ◌*◌, ◌<◌, ◌≤◌, List, [], ◌∷◌, ◌++◌, map, length, sym, ap, ap₂, ◌∙◌, subst, add_assoc, append_assoc, append-nil, length-append, length-drop, take, drop, zero-add, zero-mul, arith}
+use Rattle.std.proofs.Math.Nat.{pow-zero}
 use Rattle.std.specs.List.{range_with_len}
-use Rattle.std.proofs.lemmas.List.{take_more_set, length-set, append_assoc, append-nil}
+use Rattle.std.proofs.lemmas.List.{take_rest, get_or-drop}
 use Rattle.std.proofs.lemmas.List.Sums.{sum_by-cons}
-use Rattle.digits.specs.Rows.{at}
-use Rattle.words.specs.declared.own.Own.{Own}
-use Rattle.words.specs.Marks.{reading, block}
-use Rattle.words.specs.Own.{own_from, found, places_from, Left}
+use Rattle.digits.specs.Rows.{at, row}
+use Rattle.words.specs.Limits.{power_one, power_two, sets_few, width_sets, dim_narrow}
+use Rattle.words.specs.Marks.{reading, block, width}
+use Rattle.words.specs.Own.{own_from, own_coordinates}
 use Rattle.words.specs.Places.{choose, place_sets}
-use Rattle.words.specs.Limits.{sets_few, width_sets, dim_narrow}
-use Rattle.words.specs.Readings.{reading_lt}
+use Rattle.words.specs.Readings.{letter_lt, reading_lt}
+use Rattle.words.specs.Words.{letter, word_dim}
+use Rattle.words.proofs.Lettering.{word_len, word_at}
+use Rattle.words.proofs.OwnCoordinates.{length_own}
 
--- the places from i on are i and those from i + 1 on
-pub places_more : (word : List ℕ) (i : ℕ) → i < length word → places_from word i ≡ i ∷ places_from word (i + 1)
-places_more word i l = ap (range_with_len i) {x = length word - i} {y = suc (length word - (i + 1))} (omega arith)
+-- The own coordinates are those found and one for each set that is left, the first of whose blocks begins at `next`.
+pub record Left (h q t : ℕ) (found : List ℕ) (next : ℕ) (sets : List (List ℕ)) : Type 0 where
+  pub all : found ++ own_from q (letter h q t) next sets ≡ own_coordinates h q t
+  pub reach : next + width q sets ≡ word_dim h q
 
-pub places_none : (word : List ℕ) (i : ℕ) → length word ≤ i → places_from word i ≡ []
-places_none word i l = ap (range_with_len i) {x = length word - i} {y = 0} (omega arith)
+-- the places from place p on
+abbrev pub places_from : ℕ → ℕ → List ℕ
+places_from h p = range_with_len p (h - p)
 
-pub read_one : (q : ℕ) (word : ℕ → ℕ) (p : ℕ) → reading q word (p ∷ []) ≡ word p
+-- The sets that are left: the pairs of places from i on; before them each place from p on; or before the pairs from i + 1
+-- on the pairs of place i and one from j on.
+abbrev pub pairs_from : ℕ → ℕ → List (List ℕ)
+pairs_from h i = choose 2 (places_from h i) ++ []
+
+abbrev pub singles_from : ℕ → ℕ → List (List ℕ)
+singles_from h p = choose 1 (places_from h p) ++ pairs_from h 0
+
+abbrev pub pairs_with : ℕ → ℕ → ℕ → List (List ℕ)
+pairs_with h i j = map (λ places. i ∷ places) (choose 1 (places_from h j)) ++ pairs_from h (i + 1)
+
+places_more : (h p : ℕ) → p < h → places_from h p ≡ p ∷ places_from h (p + 1)
+places_more h p l = ap (range_with_len p) {x = h - p} {y = suc (h - (p + 1))} (omega arith)
+
+whole : (h : ℕ) → places_from h 0 ≡ range_with_len 0 h
+whole h = ap (range_with_len 0) {x = h - 0} {y = h} (omega arith)
+
+places_none : (h p : ℕ) → h ≤ p → places_from h p ≡ []
+places_none h p l = ap (range_with_len p) {x = h - p} {y = 0} (omega arith)
+
+read_one : (q : ℕ) (word : ℕ → ℕ) (p : ℕ) → reading q word (p ∷ []) ≡ word p
 read_one q word p = ap (λ a. a + word p) (zero-mul q) ∙ zero-add (word p)
 
-pub read_two : (q : ℕ) (word : ℕ → ℕ) (i j : ℕ) → reading q word (i ∷ j ∷ []) ≡ word i * q + word j
+read_two : (q : ℕ) (word : ℕ → ℕ) (i j : ℕ) → reading q word (i ∷ j ∷ []) ≡ word i * q + word j
 read_two q word i j = ap (λ a. a * q + word j) (read_one q word i)
 
-module _ (q : ℕ) (word : List ℕ) (own : Own) (places : List ℕ) (sets : List (List ℕ)) (left : Left q word own (places ∷ sets)) where
-  pub left_fits : (number w : ℕ) → number ≡ reading q (at word) places → w ≡ block q places →
-      (own.len < 16) × ((number < w) × (own.next + w ≤ 4096))
-  left_fits number w n b = (
-    omega (arith, left.room),
-    (omega (arith, reading_lt q (at word) left.letters places), omega (arith, left.reach, sum_by-cons (block q) places sets)),
-  )
-
-  -- the next set's coordinate is added
-  pub left_push : (number w : ℕ) → number ≡ reading q (at word) places → w ≡ block q places →
-      Left q word (record { coordinates = set own.coordinates own.len (own.next + number); len = own.len + 1; next = own.next + w }) sets
-  unfolding own_from
-  left_push number w n b =
+module _ {h q t : ℕ} {found : List ℕ} {next : ℕ} where
+  -- nothing is found but coordinate 0, which stands for no place
+  pub left_all : found ≡ 0 ∷ [] → next ≡ 1 → Left h q t found next (singles_from h 0)
+  unfolding choose own_from
+  left_all e f =
+      let sets = ap (λ ps. [] ∷ (choose 1 ps ++ (choose 2 ps ++ []))) (whole h) in
       record {
-        few = left.few;
-        letters = left.letters;
         all =
-            ap₂ (λ a c. a ++ own_from q (at word) c sets)
-            (take_more_set own.coordinates own.len (own.next + number) (omega (arith, left.whole, left.room)) ∙ ap (λ a. found own ++ ((own.next + a) ∷ [])) n)
-            (ap (λ a. own.next + a) b)
-            ∙ append_assoc (found own) ((own.next + reading q (at word) places) ∷ []) (own_from q (at word) (own.next + block q places) sets)
-            ∙ left.all;
-        whole = length-set own.coordinates own.len (own.next + number) ∙ left.whole;
-        room = omega (arith, left.room);
-        reach = omega (arith, left.reach, sum_by-cons (block q) places sets);
+            ap₂ (λ xs a. xs ++ own_from q (letter h q t) a (singles_from h 0)) e (f ∙ sym (ap (λ a. 0 + a) (pow-zero q)))
+            ∙ ap (own_from q (letter h q t) 0) sets;
+        reach =
+            ap (λ a. a + width q (singles_from h 0)) (f ∙ sym (pow-zero q)) ∙ sym (sum_by-cons (block q) [] (singles_from h 0))
+            ∙ ap (width q) sets ∙ width_sets h q;
       }
 
--- products of letters are small
-pub letters_fit : (q : ℕ) (word : List ℕ) (own : Own) (sets : List (List ℕ)) → Left q word own sets → (i : ℕ) →
-    (at word i * q ≤ 256) × (q * q ≤ 256)
-letters_fit q word own sets left i =
-    let low : at word i ≤ 16 = omega (arith, left.letters i, left.few) in
-    (mul-le-mul low left.few, mul-le-mul left.few left.few)
-
-module _ (q : ℕ) (word : List ℕ) (own : Own) where
-  -- the next set is of one place
-  pub one_next : (p : ℕ) (rest : List (List ℕ)) → p < length word → Left q word own (choose 1 (places_from word p) ++ rest) →
-      Left q word own ((p ∷ []) ∷ (choose 1 (places_from word (p + 1)) ++ rest))
+  -- the sets of one place come to an end, and so do the pairs of place i, and all pairs
+  pub singles_last : (word : List ℕ) → word ≡ row h (letter h q t) → (p : ℕ) → length word ≤ p → Left h q t found next (singles_from h p) →
+      Left h q t found next (pairs_from h 0)
   unfolding choose
-  one_next p rest l left = subst (λ ps. Left q word own (choose 1 ps ++ rest)) (places_more word p l) left
+  singles_last word is p l left =
+      subst (λ ps. Left h q t found next (choose 1 ps ++ pairs_from h 0)) (places_none h p (omega (arith, word_len h q t word is))) left
 
-  pub one_last : (p : ℕ) (rest : List (List ℕ)) → length word ≤ p → Left q word own (choose 1 (places_from word p) ++ rest) → Left q word own rest
+  pub pairs_next : (word : List ℕ) → word ≡ row h (letter h q t) → (i j : ℕ) → i < length word → j ≡ i + 1 → Left h q t found next (pairs_from h i) →
+      Left h q t found next (pairs_with h i j)
   unfolding choose
-  one_last p rest l left = subst (λ ps. Left q word own (choose 1 ps ++ rest)) (places_none word p l) left
+  pairs_next word is i j l e left =
+      subst (λ j. Left h q t found next (pairs_with h i j)) (sym e)
+      (subst (Left h q t found next) (append_assoc (map (λ places. i ∷ places) (choose 1 (places_from h (i + 1)))) (choose 2 (places_from h (i + 1))) [])
+      (subst (λ ps. Left h q t found next (choose 2 ps ++ [])) (places_more h i (omega (arith, word_len h q t word is))) left))
 
-  -- the next sets are those of place i and a later place
-  pub pairs_first : (i : ℕ) → i < length word → Left q word own (choose 2 (places_from word i)) →
-      Left q word own (map (λ places. i ∷ places) (choose 1 (places_from word (i + 1))) ++ choose 2 (places_from word (i + 1)))
+  pub pairs_last : (word : List ℕ) → word ≡ row h (letter h q t) → (i k : ℕ) → length (take (length word - (i + 1)) (drop (i + 1) word)) ≤ k →
+      Left h q t found next (pairs_with h i (i + 1 + k)) → Left h q t found next (pairs_from h (i + 1))
   unfolding choose
-  pairs_first i l left = subst (λ ps. Left q word own (choose 2 ps)) (places_more word i l) left
+  pairs_last word is i k l left =
+      let rest = take_rest word (i + 1) in
+      let past : h ≤ i + 1 + k = omega (arith, ap length rest, length-drop (i + 1) word, word_len h q t word is) in
+      subst (λ ps. Left h q t found next (map (λ places. i ∷ places) (choose 1 ps) ++ pairs_from h (i + 1))) (places_none h (i + 1 + k) past) left
 
-  pub pair_next : (i j : ℕ) (rest : List (List ℕ)) → j < length word → Left q word own (map (λ places. i ∷ places) (choose 1 (places_from word j)) ++ rest) →
-      Left q word own ((i ∷ j ∷ []) ∷ (map (λ places. i ∷ places) (choose 1 (places_from word (j + 1))) ++ rest))
+  pub left_none : (word : List ℕ) → word ≡ row h (letter h q t) → (i : ℕ) → length word ≤ i → Left h q t found next (pairs_from h i) →
+      found ≡ own_coordinates h q t
+  unfolding choose own_from
+  left_none word is i l left =
+      let none = subst (λ ps. Left h q t found next (choose 2 ps ++ [])) (places_none h i (omega (arith, word_len h q t word is))) left in
+      sym (append-nil found) ∙ none.all
+
+-- The coordinate n of the next set is found, and w is where the block after its own begins.
+pub record Step (h q t : ℕ) (found : List ℕ) (n w : ℕ) (sets : List (List ℕ)) : Type 0 where
+  pub left : Left h q t (found ++ (n ∷ [])) w sets
+  pub room : length found < 16
+  pub small : n < 2641
+  pub reach : w ≤ 2641
+
+module _ {h q t : ℕ} {found : List ℕ} {next : ℕ} (short : h ≤ 5) (some : 2 ≤ q) (few : q ≤ 16) where
+  step : (places : List ℕ) (sets : List (List ℕ)) (n w : ℕ) → n ≡ next + reading q (letter h q t) places → w ≡ next + block q places →
+      Left h q t found next (places ∷ sets) → Step h q t found n w sets
+  unfolding own_from
+  step places sets n w is ends left =
+      let parts = sum_by-cons (block q) places sets in
+      let bound = dim_narrow h q short few in
+      let below = reading_lt q (letter h q t) (λ p. letter_lt h q t p (omega arith)) places in
+      record {
+        left = record {
+          all =
+              ap₂ (λ a b. (found ++ (a ∷ [])) ++ own_from q (letter h q t) b sets) is ends
+              ∙ append_assoc found ((next + reading q (letter h q t) places) ∷ []) (own_from q (letter h q t) (next + block q places) sets)
+              ∙ left.all;
+          reach = omega (arith, left.reach);
+        };
+        room =
+            omega (
+              arith,
+              sets_few h short,
+              length_own q (letter h q t) 0 (place_sets h),
+              length_own q (letter h q t) next (places ∷ sets),
+              ap length left.all,
+              length-append found (own_from q (letter h q t) next (places ∷ sets)),
+            );
+        small = omega (arith, left.reach);
+        reach = omega (arith, left.reach);
+      }
+
+  -- a place's coordinate
+  pub single_step : (word : List ℕ) → word ≡ row h (letter h q t) → (p : ℕ) → p < length word → Left h q t found next (singles_from h p) →
+      Step h q t found (next + at word p) (next + q) (singles_from h (p + 1))
   unfolding choose
-  pair_next i j rest l left = subst (λ ps. Left q word own (map (λ places. i ∷ places) (choose 1 ps) ++ rest)) (places_more word j l) left
+  single_step word is p l left =
+      step (p ∷ []) (singles_from h (p + 1)) _ _
+      (ap (λ a. next + a) (word_at h q t word is p l ∙ sym (read_one q (letter h q t) p))) (ap (λ a. next + a) (sym (power_one q)))
+      (subst (λ ps. Left h q t found next (choose 1 ps ++ pairs_from h 0)) (places_more h p (omega (arith, word_len h q t word is))) left)
 
-  pub pair_last : (i j : ℕ) (rest : List (List ℕ)) → length word ≤ j → Left q word own (map (λ places. i ∷ places) (choose 1 (places_from word j)) ++ rest) →
-      Left q word own rest
+  -- the coordinate of two places
+  pub pair_step : (word later : List ℕ) → word ≡ row h (letter h q t) → later ≡ row h (letter h q t) → (i k : ℕ) → i < length word →
+      k < length (take (length later - (i + 1)) (drop (i + 1) later)) → Left h q t found next (pairs_with h i (i + 1 + k)) →
+      Step h q t found (next + at word i * q + at (take (length later - (i + 1)) (drop (i + 1) later)) k) (next + q * q) (pairs_with h i (i + 1 + (k + 1)))
   unfolding choose
-  pair_last i j rest l left = subst (λ ps. Left q word own (map (λ places. i ∷ places) (choose 1 ps) ++ rest)) (places_none word j l) left
-
-  pub pairs_last : (i : ℕ) → length word ≤ i → Left q word own (choose 2 (places_from word i)) → Left q word own []
-  unfolding choose
-  pairs_last i l left = subst (λ ps. Left q word own (choose 2 ps)) (places_none word i l) left
-
--- nothing is found but coordinate 0, which stands for no place
-pub left_all : (q : ℕ) (word : List ℕ) → length word ≤ 5 → q ≤ 16 → ((p : ℕ) → at word p < q) →
-    Left q word (record { coordinates = replicate 16 0; len = 1; next = 1 }) (choose 1 (places_from word 0) ++ choose 2 (places_from word 0))
-unfolding choose own_from
-left_all q word short few letters =
-    let whole_word : places_from word 0 ≡ range_with_len 0 (length word) = ap (range_with_len 0) {x = length word - 0} {y = length word} (omega arith) in
-    subst (λ ps. Left q word (record { coordinates = replicate 16 0; len = 1; next = 1 }) (choose 1 ps ++ choose 2 ps)) (sym whole_word)
-    (subst (λ sets. Left q word (record { coordinates = replicate 16 0; len = 1; next = 1 }) (choose 1 (range_with_len 0 (length word)) ++ sets)) (append-nil (choose 2 (range_with_len 0 (length word))))
-    (record {
-      few = few;
-      letters = letters;
-      all = ap (λ a. 0 ∷ own_from q (at word) a (choose 1 (range_with_len 0 (length word)) ++ (choose 2 (range_with_len 0 (length word)) ++ []))) (sym (ap (λ a. 0 + a) (pow-zero q)));
-      whole = refl;
-      room = omega (arith, sets_few (length word) short);
-      reach = omega (arith, sum_by-cons (block q) [] (choose 1 (range_with_len 0 (length word)) ++ (choose 2 (range_with_len 0 (length word)) ++ [])), pow-zero q, width_sets (length word) q, dim_narrow (length word) q short few);
-    }))
-
--- nothing is left
-pub left_none : (q : ℕ) (word : List ℕ) (own : Own) → Left q word own [] →
-    (found own ≡ own_from q (at word) 0 (place_sets (length word))) × (own.len ≤ 16)
-unfolding own_from
-left_none q word own left = (sym (append-nil (found own)) ∙ left.all, omega (arith, left.room))
+  pair_step word later is is' i k l l' left =
+      let rest = take_rest later (i + 1) in
+      let inside : i + 1 + k < length later = omega (arith, ap length rest, length-drop (i + 1) later) in
+      let second : at (take (length later - (i + 1)) (drop (i + 1) later)) k ≡ letter h q t (i + 1 + k) =
+      ap (λ xs. at xs k) rest ∙ get_or-drop (i + 1) later k 0 ∙ word_at h q t later is' (i + 1 + k) inside in
+      subst (Step h q t found _ _) (ap (pairs_with h i) (add_assoc (i + 1) k 1))
+      (step (i ∷ (i + 1 + k) ∷ []) (pairs_with h i (i + 1 + k + 1)) _ _
+      (add_assoc next (at word i * q) _ ∙ ap₂ (λ a b. next + (a * q + b)) (word_at h q t word is i l) second ∙ ap (λ a. next + a) (sym (read_two q (letter h q t) i (i + 1 + k))))
+      (ap (λ a. next + a) (sym (power_two q)))
+      (subst (λ ps. Left h q t found next (map (λ places. i ∷ places) (choose 1 ps) ++ pairs_from h (i + 1)))
+      (places_more h (i + 1 + k) (omega (arith, word_len h q t later is'))) left))

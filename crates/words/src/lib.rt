@@ -2,9 +2,6 @@
 
 #![tactic(auto)]
 
-mod letters;
-mod own;
-mod weights;
 pub mod words;
 pub mod worked;
 

@@ -1,6 +1,5 @@
-use Rattle.std.proofs.Common.{refl}
 use Rattle.words.proofs.WorkedNumbers.{squared}
 use Rattle.words.proofs.worked.distance_law.Goals as goal
 
 pub returns : goal.returns
-returns c = (refl, squared)
+returns c = squared

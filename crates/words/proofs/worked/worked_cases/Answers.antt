@@ -1,6 +1,5 @@
-use Rattle.std.proofs.Common.{refl}
 use Rattle.words.proofs.WorkedNumbers.{worked}
 use Rattle.words.proofs.worked.worked_cases.Goals as goal
 
 pub returns : goal.returns
-returns c = (refl, worked)
+returns c = worked

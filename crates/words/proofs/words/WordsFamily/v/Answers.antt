@@ -1,5 +1,5 @@
-use Rattle.std.proofs.Common.{◌*◌, ◌≤◌, sym, ap, ◌∙◌, ap₂, mul-le-mul, arith}
-use Rattle.words.specs.Words.{weight}
+use Rattle.std.proofs.Common.{◌*◌, ◌≤◌, sym, ◌∙◌, ap₂, mul-le-mul, arith}
+use Rattle.words.specs.Words.{size_at}
 use Rattle.words.specs.Limits.{weight_lt}
 use Rattle.words.proofs.Weighing.{digit_weigh}
 use Rattle.words.specs.WordFamily.{digit_lt}
@@ -8,10 +8,10 @@ use Rattle.words.proofs.words.WordsFamily.v.Goals as goal
 pub overflow_mul-result : goal.overflow_mul-result
 overflow_mul-result c =
     let digit : c.u.result ≤ 5 = omega (arith, c.u.ensures, digit_lt c.args.self.now.letters c.args.self.now.alphabet (omega arith) (omega arith) (omega arith) (λ s. 1) (λ s. omega arith) c.args.i c.args.c) in
-    let heavy : c.weight_of.result ≤ 5 = omega (arith, c.weight_of.ensures, weight_lt c.args.self.now.letters c.size_at.result) in
+    let heavy : c.weight.result ≤ 5 = omega (arith, c.weight.ensures, weight_lt c.args.self.now.letters (size_at c.args.self.now.letters c.args.self.now.alphabet c.args.c)) in
     omega (arith, mul-le-mul digit heavy)
 
 pub returns : goal.returns
 returns c =
-    ap₂ (λ a b. a * b) c.u.ensures (c.weight_of.ensures ∙ ap (weight c.args.self.now.letters) c.size_at.ensures)
+    ap₂ (λ a b. a * b) c.u.ensures c.weight.ensures
     ∙ sym (digit_weigh c.args.self.now.letters c.args.self.now.alphabet c.args.i c.args.c)
