@@ -140,18 +140,18 @@ module _ {h q t : ℕ} {found : List ℕ} {next : ℕ} (short : h ≤ 5) (some :
       (subst (λ ps. Left h q t found next (choose 1 ps ++ pairs_from h 0)) (places_more h p (omega (arith, word_len h q t word is))) left)
 
   -- the coordinate of two places
-  pub pair_step : (word later : List ℕ) → word ≡ row h (letter h q t) → later ≡ row h (letter h q t) → (i k : ℕ) → i < length word →
-      k < length (take (length later - (i + 1)) (drop (i + 1) later)) → Left h q t found next (pairs_with h i (i + 1 + k)) →
-      Step h q t found (next + at word i * q + at (take (length later - (i + 1)) (drop (i + 1) later)) k) (next + q * q) (pairs_with h i (i + 1 + (k + 1)))
+  pub pair_step : (word : List ℕ) → word ≡ row h (letter h q t) → (i k : ℕ) → i < length word →
+      k < length (take (length word - (i + 1)) (drop (i + 1) word)) → Left h q t found next (pairs_with h i (i + 1 + k)) →
+      Step h q t found (next + at word i * q + at (take (length word - (i + 1)) (drop (i + 1) word)) k) (next + q * q) (pairs_with h i (i + 1 + (k + 1)))
   unfolding choose
-  pair_step word later is is' i k l l' left =
-      let rest = take_rest later (i + 1) in
-      let inside : i + 1 + k < length later = omega (arith, ap length rest, length-drop (i + 1) later) in
-      let second : at (take (length later - (i + 1)) (drop (i + 1) later)) k ≡ letter h q t (i + 1 + k) =
-      ap (λ xs. at xs k) rest ∙ get_or-drop (i + 1) later k 0 ∙ word_at h q t later is' (i + 1 + k) inside in
+  pair_step word is i k l l' left =
+      let rest = take_rest word (i + 1) in
+      let inside : i + 1 + k < length word = omega (arith, ap length rest, length-drop (i + 1) word) in
+      let second : at (take (length word - (i + 1)) (drop (i + 1) word)) k ≡ letter h q t (i + 1 + k) =
+      ap (λ xs. at xs k) rest ∙ get_or-drop (i + 1) word k 0 ∙ word_at h q t word is (i + 1 + k) inside in
       subst (Step h q t found _ _) (ap (pairs_with h i) (add_assoc (i + 1) k 1))
       (step (i ∷ (i + 1 + k) ∷ []) (pairs_with h i (i + 1 + k + 1)) _ _
       (add_assoc next (at word i * q) _ ∙ ap₂ (λ a b. next + (a * q + b)) (word_at h q t word is i l) second ∙ ap (λ a. next + a) (sym (read_two q (letter h q t) i (i + 1 + k))))
       (ap (λ a. next + a) (sym (power_two q)))
       (subst (λ ps. Left h q t found next (map (λ places. i ∷ places) (choose 1 ps) ++ pairs_from h (i + 1)))
-      (places_more h (i + 1 + k) (omega (arith, word_len h q t later is'))) left))
+      (places_more h (i + 1 + k) (omega (arith, word_len h q t word is))) left))

@@ -1,34 +1,41 @@
--- A position's letters: its digits in base q, found from the last place to the first.
-use Rattle.std.proofs.Common.{◌≡◌, ℕ, ◌+◌, ◌-◌, ◌/◌, ◌%◌, ◌^◌, ◌<◌, List, [], ◌∷◌, ◌++◌, length, reverse, sym, ap, ◌∙◌, add-one, zero-add, pow-suc, arith}
-use Rattle.std.proofs.Math.Nat.{div-div-eq-div-mul}
-use Rattle.std.proofs.lemmas.List.FromFn.{fill_by_all, map-range_with_len_more}
-use Rattle.std.proofs.lemmas.List.{length-reverse, get_or-reverse}
+-- A position's letters: its digits in base q, written from the last place to the first.
+use Rattle.std.proofs.Common.{◌≡◌, ℕ, suc, ◌-◌, ◌/◌, ◌%◌, ◌^◌, ◌<◌, ◌≤◌, List, length, set, sym, ap, ◌∙◌, inl, inr, pow-suc, div-one, arith}
+use Rattle.std.proofs.Math.Nat.{pow-zero, div-div-eq-div-mul}
+use Rattle.std.proofs.lemmas.List.FromFn.{fill_by_all}
+use Rattle.std.proofs.lemmas.List.{get_or-set_same, get_or-set_other}
+use Rattle.std.proofs.lemmas.Bool.{cases_eq}
 use Rattle.digits.specs.Rows.{at, row}
 use Rattle.digits.proofs.RowLaws.{length-row, at_row}
 use Rattle.words.specs.Words.{letter}
 
--- digit k of a number, the least significant first
-abbrev pub digit : ℕ → ℕ → ℕ → ℕ
-digit q t k = t / q ^ k % q
+-- the letters from place p on are written, and the rest is the number of the letters before it
+pub record Written (h q t p : ℕ) (word : List ℕ) (rest : ℕ) : Type 0 where
+  pub is_rest : rest ≡ t / q ^ (h - p)
+  pub letters : (k : ℕ) → p ≤ k → k < h → at word k ≡ letter h q t k
 
--- one digit more is taken off the rest
-pub digit_more : (q t k rest : ℕ) → rest ≡ t / q ^ k → row (k + 1) (digit q t) ≡ row k (digit q t) ++ (rest % q ∷ [])
-digit_more q t k rest e =
-    map-range_with_len_more (digit q t) 0 k k (zero-add k) ∙ ap (λ a. row k (digit q t) ++ (a % q ∷ [])) (sym e)
+pub written_none : (h q t : ℕ) (word : List ℕ) → Written h q t h word t
+written_none h q t word = record {
+  is_rest = sym (ap (λ n. t / q ^ n) {x = h - h} {y = 0} (omega arith) ∙ ap (λ n. t / n) (pow-zero q) ∙ div-one t);
+  letters = λ k a b. absurd (omega arith);
+}
 
-pub rest_more : (q t k rest : ℕ) → rest ≡ t / q ^ k → rest / q ≡ t / q ^ (k + 1)
-rest_more q t k rest e =
-    ap (λ a. a / q) e ∙ div-div-eq-div-mul t (q ^ k) q ∙ ap (λ n. t / n) (sym (pow-suc q k) ∙ ap (λ n. q ^ n) (sym (add-one k)))
+pub written_more : (h q t p : ℕ) (word : List ℕ) (rest : ℕ) → 0 < p → p ≤ h → length word ≡ h → Written h q t p word rest →
+    Written h q t (p - 1) (set word (p - 1) (rest % q)) (rest / q)
+written_more h q t p word rest pos l long w = record {
+  is_rest =
+      ap (λ a. a / q) w.is_rest ∙ div-div-eq-div-mul t (q ^ (h - p)) q
+      ∙ ap (λ n. t / n) (sym (pow-suc q (h - p)) ∙ ap (λ n. q ^ n) {x = suc (h - p)} {y = h - (p - 1)} (omega arith));
+  letters = λ k a b.
+      elim (cases_eq k (p - 1)) [
+        | inl e ↦
+            ap (at (set word (p - 1) (rest % q))) e ∙ get_or-set_same word (p - 1) (rest % q) 0 (omega arith)
+            ∙ ap (λ a. a % q) w.is_rest ∙ ap (λ n. t / q ^ n % q) {x = h - p} {y = h - 1 - k} (omega arith)
+        | inr e ↦ get_or-set_other word (p - 1) k (rest % q) 0 e ∙ w.letters k (omega arith) b
+      ];
+}
 
-pub letters_reversed : (h q t : ℕ) → reverse (row h (digit q t)) ≡ row h (letter h q t)
-letters_reversed h q t =
-    let long = length-row h (digit q t) in
-    fill_by_all (letter h q t) (reverse (row h (digit q t))) h 0 (length-reverse (row h (digit q t)) ∙ long)
-    (λ p l.
-    let inside : p < length (row h (digit q t)) = omega arith in
-    get_or-reverse (row h (digit q t)) p 0 inside
-    ∙ ap (λ n. at (row h (digit q t)) (n - 1 - p)) long
-    ∙ at_row h (digit q t) (h - 1 - p) (omega arith))
+pub written_all : (h q t p : ℕ) (word : List ℕ) (rest : ℕ) → p ≤ 0 → length word ≡ h → Written h q t p word rest → word ≡ row h (letter h q t)
+written_all h q t p word rest l long w = fill_by_all (letter h q t) word h 0 long (λ k b. w.letters k (omega arith) b)
 
 -- a word that holds a position's letters
 module _ (h q t : ℕ) (word : List ℕ) (is : word ≡ row h (letter h q t)) where

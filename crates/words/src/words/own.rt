@@ -1,5 +1,5 @@
 // A position's own coordinates: those where its vectors are not 0.
-ghost use Rattle.std.specs.Prelude.{◌≡◌};
+ghost use Rattle.std.specs.Prelude.{◌≡◌, length};
 ghost use Rattle.digits.specs.Rows.{row};
 ghost use Rattle.words.specs.Own.{own_or_none};
 ghost use Rattle.words.specs.Words.{letter};
@@ -8,17 +8,16 @@ use crate::words::Words;
 use arrayvec::ArrayVec;
 
 impl Words {
-    // The letters of a position's word, which are its digits in base q, the most significant first.
-    fn word(&self, t: usize) -> ArrayVec<usize, 5>
-        ensures { result.items ≡ row self.now.letters (letter self.now.letters self.now.alphabet t) }
+    // The letters of a position, which are its digits in base q, the most significant first, written to a buffer.
+    fn spell<'a>(&self, t: usize, buffer: &'a mut [usize; 5]) -> &'a [usize]
+        ensures { result.now ≡ row self.now.letters (letter self.now.letters self.now.alphabet t) }
     {
-        let mut word = ArrayVec::new();
+        let word = &mut buffer[..self.letters];
         let mut rest = t;
-        for _ in 0..self.letters {
-            word.push(rest % self.alphabet);
+        for place in (0..word.len()).rev() {
+            word[place] = rest % self.alphabet;
             rest /= self.alphabet;
         }
-        word.reverse();
         word
     }
 
@@ -31,10 +30,11 @@ impl Words {
         if t >= self.count {
             return own;
         }
-        let word = self.word(t);
+        let mut letters = [0; 5];
+        let word = self.spell(t, &mut letters);
         own.push(0);
         let mut block = 1;
-        for letter in word.iter() {
+        for letter in word {
             own.push(block + *letter);
             block += self.alphabet;
         }

@@ -9,73 +9,68 @@ loop-letter-init c = left_all (c.push.ensures.items ∙ ap (λ xs. xs ++ (0 ∷ 
 pub overflow_add-block : goal.overflow_add-block
 overflow_add-block c =
     let step =
-    single_step c.args.self.now.short c.args.self.now.choice c.args.self.now.few _ (c.deref-letter-items.ensures.0 ∙ c.word-word.ensures)
+    single_step c.args.self.now.short c.args.self.now.choice c.args.self.now.few _ c.spell-word.ensures
     c.loop-letter.letter-index (omega arith) c.loop-letter.invariant in
     omega arith
 
 pub push-requires-in-loop-letter : goal.push-requires-in-loop-letter
 push-requires-in-loop-letter c =
     let step =
-    single_step c.args.self.now.short c.args.self.now.choice c.args.self.now.few _ (c.deref-letter-items.ensures.0 ∙ c.word-word.ensures)
+    single_step c.args.self.now.short c.args.self.now.choice c.args.self.now.few _ c.spell-word.ensures
     c.loop-letter.letter-index (omega arith) c.loop-letter.invariant in
     (omega arith, step.room)
 
 pub loop-letter-preserved : goal.loop-letter-preserved
 loop-letter-preserved c =
     let step =
-    single_step c.args.self.now.short c.args.self.now.choice c.args.self.now.few _ (c.deref-letter-items.ensures.0 ∙ c.word-word.ensures)
+    single_step c.args.self.now.short c.args.self.now.choice c.args.self.now.few _ c.spell-word.ensures
     c.loop-letter.letter-index (omega arith) c.loop-letter.invariant in
     rw c.push-in-loop-letter.ensures.items step.left
 
 pub loop-place-init : goal.loop-place-init
 loop-place-init c =
-    singles_last _ (c.deref-letter-items.ensures.0 ∙ c.word-word.ensures) c.loop-letter.letter-index (omega arith) c.loop-letter.invariant
+    singles_last _ c.spell-word.ensures c.loop-letter.letter-index (omega arith) c.loop-letter.invariant
 
 pub loop-second-init : goal.loop-second-init
 loop-second-init c =
-    pairs_next _ (c.deref-first-items.ensures.0 ∙ c.word-word.ensures) c.loop-place.place (c.loop-place.place + 1 + 0) (omega arith) (omega arith)
+    pairs_next _ c.spell-word.ensures c.loop-place.place (c.loop-place.place + 1 + 0) (omega arith) (omega arith)
     c.loop-place.invariant
 
 pub overflow_mul-first : goal.overflow_mul-first
 overflow_mul-first c =
     let step =
-    pair_step c.args.self.now.short c.args.self.now.choice c.args.self.now.few _ _ (c.deref-first-items.ensures.0 ∙ c.word-word.ensures)
-    (c.deref.ensures.0 ∙ c.word-word.ensures) c.loop-place.place c.loop-second.second-index (omega arith) (omega arith) c.loop-second.invariant in
+    pair_step c.args.self.now.short c.args.self.now.choice c.args.self.now.few _ c.spell-word.ensures c.loop-place.place c.loop-second.second-index (omega arith) (omega arith) c.loop-second.invariant in
     omega arith
 
 pub overflow_add-block-in-loop-second : goal.overflow_add-block-in-loop-second
 overflow_add-block-in-loop-second c =
     let step =
-    pair_step c.args.self.now.short c.args.self.now.choice c.args.self.now.few _ _ (c.deref-first-items.ensures.0 ∙ c.word-word.ensures)
-    (c.deref.ensures.0 ∙ c.word-word.ensures) c.loop-place.place c.loop-second.second-index (omega arith) (omega arith) c.loop-second.invariant in
+    pair_step c.args.self.now.short c.args.self.now.choice c.args.self.now.few _ c.spell-word.ensures c.loop-place.place c.loop-second.second-index (omega arith) (omega arith) c.loop-second.invariant in
     omega arith
 
 pub overflow_add-block-in-loop-second-2 : goal.overflow_add-block-in-loop-second-2
 overflow_add-block-in-loop-second-2 c =
     let step =
-    pair_step c.args.self.now.short c.args.self.now.choice c.args.self.now.few _ _ (c.deref-first-items.ensures.0 ∙ c.word-word.ensures)
-    (c.deref.ensures.0 ∙ c.word-word.ensures) c.loop-place.place c.loop-second.second-index (omega arith) (omega arith) c.loop-second.invariant in
+    pair_step c.args.self.now.short c.args.self.now.choice c.args.self.now.few _ c.spell-word.ensures c.loop-place.place c.loop-second.second-index (omega arith) (omega arith) c.loop-second.invariant in
     omega arith
 
 pub push-requires-in-loop-second : goal.push-requires-in-loop-second
 push-requires-in-loop-second c =
     let step =
-    pair_step c.args.self.now.short c.args.self.now.choice c.args.self.now.few _ _ (c.deref-first-items.ensures.0 ∙ c.word-word.ensures)
-    (c.deref.ensures.0 ∙ c.word-word.ensures) c.loop-place.place c.loop-second.second-index (omega arith) (omega arith) c.loop-second.invariant in
+    pair_step c.args.self.now.short c.args.self.now.choice c.args.self.now.few _ c.spell-word.ensures c.loop-place.place c.loop-second.second-index (omega arith) (omega arith) c.loop-second.invariant in
     (omega arith, step.room)
 
 pub loop-second-preserved : goal.loop-second-preserved
 loop-second-preserved c =
     let step =
-    pair_step c.args.self.now.short c.args.self.now.choice c.args.self.now.few _ _ (c.deref-first-items.ensures.0 ∙ c.word-word.ensures)
-    (c.deref.ensures.0 ∙ c.word-word.ensures) c.loop-place.place c.loop-second.second-index (omega arith) (omega arith) c.loop-second.invariant in
+    pair_step c.args.self.now.short c.args.self.now.choice c.args.self.now.few _ c.spell-word.ensures c.loop-place.place c.loop-second.second-index (omega arith) (omega arith) c.loop-second.invariant in
     rw c.push-in-loop-second.ensures.items step.left
 
 pub loop-place-preserved : goal.loop-place-preserved
 loop-place-preserved c =
-    pairs_last _ (c.deref.ensures.0 ∙ c.word-word.ensures) c.loop-place.place c.loop-second.second-index (omega arith) c.loop-second.invariant
+    pairs_last _ c.spell-word.ensures c.loop-place.place c.loop-second.second-index (omega arith) c.loop-second.invariant
 
 pub returns : goal.returns
 returns c =
-    left_none _ (c.deref-first-items.ensures.0 ∙ c.word-word.ensures) c.loop-place.place (omega arith) c.loop-place.invariant
+    left_none _ c.spell-word.ensures c.loop-place.place (omega arith) c.loop-place.invariant
     ∙ sym (cond-true _ _ _ (lt-ltb c.args.t (c.args.self.now.alphabet ^ c.args.self.now.letters) (omega arith)))
