@@ -11,6 +11,7 @@ use Rattle.words.specs.Own.{own_from, own_coordinates}
 use Rattle.words.specs.Places.{choose, place_sets}
 use Rattle.words.specs.Readings.{letter_lt, reading_lt}
 use Rattle.words.specs.Words.{letter, word_dim}
+use Rattle.words.specs.declared.words.Words.{Words}
 use Rattle.words.proofs.Lettering.{word_len, word_at}
 use Rattle.words.proofs.OwnCoordinates.{length_own}
 
@@ -130,28 +131,34 @@ module _ {h q t : ℕ} {found : List ℕ} {next : ℕ} (short : h ≤ 5) (some :
         reach = omega (arith, left.reach);
       }
 
+-- the steps at a family of words, where a word holds the letters of position t
+module _ (w : Words) {t : ℕ} {found : List ℕ} {next : ℕ} (word : List ℕ) (is : word ≡ row w.letters (letter w.letters w.alphabet t)) where
   -- a place's coordinate
-  pub single_step : (word : List ℕ) → word ≡ row h (letter h q t) → (p : ℕ) → p < length word → Left h q t found next (singles_from h p) →
-      Step h q t found (next + at word p) (next + q) (singles_from h (p + 1))
+  pub single_step : (p : ℕ) → p < length word → Left w.letters w.alphabet t found next (singles_from w.letters p) →
+      Step w.letters w.alphabet t found (next + at word p) (next + w.alphabet) (singles_from w.letters (p + 1))
   unfolding choose
-  single_step word is p l left =
-      step (p ∷ []) (singles_from h (p + 1)) _ _
-      (ap (λ a. next + a) (word_at h q t word is p l ∙ sym (read_one q (letter h q t) p))) (ap (λ a. next + a) (sym (power_one q)))
-      (subst (λ ps. Left h q t found next (choose 1 ps ++ pairs_from h 0)) (places_more h p (omega (arith, word_len h q t word is))) left)
+  single_step p l left =
+      step w.short w.choice w.few (p ∷ []) (singles_from w.letters (p + 1)) _ _
+      (ap (λ a. next + a) (word_at _ _ t word is p l ∙ sym (read_one w.alphabet (letter w.letters w.alphabet t) p)))
+      (ap (λ a. next + a) (sym (power_one w.alphabet)))
+      (subst (λ ps. Left w.letters w.alphabet t found next (choose 1 ps ++ pairs_from w.letters 0))
+      (places_more w.letters p (omega (arith, word_len _ _ t word is))) left)
 
-  -- the coordinate of two places
-  pub pair_step : (word : List ℕ) → word ≡ row h (letter h q t) → (i k : ℕ) → i < length word →
-      k < length (take (length word - (i + 1)) (drop (i + 1) word)) → Left h q t found next (pairs_with h i (i + 1 + k)) →
-      Step h q t found (next + at word i * q + at (take (length word - (i + 1)) (drop (i + 1) word)) k) (next + q * q) (pairs_with h i (i + 1 + (k + 1)))
+  -- the coordinate of place i and place k after it
+  pub pair_step : (i k : ℕ) → i < length word → k < length (take (length word - (i + 1)) (drop (i + 1) word)) →
+      Left w.letters w.alphabet t found next (pairs_with w.letters i (i + 1 + k)) →
+      Step w.letters w.alphabet t found (next + at word i * w.alphabet + at (take (length word - (i + 1)) (drop (i + 1) word)) k)
+      (next + w.alphabet * w.alphabet) (pairs_with w.letters i (i + 1 + (k + 1)))
   unfolding choose
-  pair_step word is i k l l' left =
+  pair_step i k l l' left =
       let rest = take_rest word (i + 1) in
       let inside : i + 1 + k < length word = omega (arith, ap length rest, length-drop (i + 1) word) in
-      let second : at (take (length word - (i + 1)) (drop (i + 1) word)) k ≡ letter h q t (i + 1 + k) =
-      ap (λ xs. at xs k) rest ∙ get_or-drop (i + 1) word k 0 ∙ word_at h q t word is (i + 1 + k) inside in
-      subst (Step h q t found _ _) (ap (pairs_with h i) (add_assoc (i + 1) k 1))
-      (step (i ∷ (i + 1 + k) ∷ []) (pairs_with h i (i + 1 + k + 1)) _ _
-      (add_assoc next (at word i * q) _ ∙ ap₂ (λ a b. next + (a * q + b)) (word_at h q t word is i l) second ∙ ap (λ a. next + a) (sym (read_two q (letter h q t) i (i + 1 + k))))
-      (ap (λ a. next + a) (sym (power_two q)))
-      (subst (λ ps. Left h q t found next (map (λ places. i ∷ places) (choose 1 ps) ++ pairs_from h (i + 1)))
-      (places_more h (i + 1 + k) (omega (arith, word_len h q t word is))) left))
+      let second : at (take (length word - (i + 1)) (drop (i + 1) word)) k ≡ letter w.letters w.alphabet t (i + 1 + k) =
+      ap (λ xs. at xs k) rest ∙ get_or-drop (i + 1) word k 0 ∙ word_at _ _ t word is (i + 1 + k) inside in
+      subst (Step w.letters w.alphabet t found _ _) (ap (pairs_with w.letters i) (add_assoc (i + 1) k 1))
+      (step w.short w.choice w.few (i ∷ (i + 1 + k) ∷ []) (pairs_with w.letters i (i + 1 + k + 1)) _ _
+      (add_assoc next (at word i * w.alphabet) _ ∙ ap₂ (λ a b. next + (a * w.alphabet + b)) (word_at _ _ t word is i l) second
+      ∙ ap (λ a. next + a) (sym (read_two w.alphabet (letter w.letters w.alphabet t) i (i + 1 + k))))
+      (ap (λ a. next + a) (sym (power_two w.alphabet)))
+      (subst (λ ps. Left w.letters w.alphabet t found next (map (λ places. i ∷ places) (choose 1 ps) ++ pairs_from w.letters (i + 1)))
+      (places_more w.letters (i + 1 + k) (omega (arith, word_len _ _ t word is))) left))

@@ -1,6 +1,7 @@
 pub mod Places
 pub mod Marks
 pub mod Words
+pub mod Sizes
 pub mod Agreement
 pub mod Own
 pub mod WorkedCases

@@ -27,11 +27,13 @@ pub struct Words {
 }
 
 impl Words {
+    ghost use Rattle.words.specs.Sizes.{letters_of, alphabet_of};
+
     // A family of words of 1 to 5 letters from an alphabet of 2 to 16.
     pub fn new(letters: usize, alphabet: usize) -> Result<Words, Fault>
         ensures cases { MatchResult result (λ _. words_fault letters alphabet ≡ None) (λ e. words_fault letters alphabet ≡ Some e) }
-        ensures letters { IfOk result (λ w. w.letters ≡ letters) }
-        ensures alphabet { IfOk result (λ w. w.alphabet ≡ alphabet) }
+        ensures letters { IfOk result (λ w. letters_of w ≡ letters) }
+        ensures alphabet { IfOk result (λ w. alphabet_of w ≡ alphabet) }
     {
         check_limits(Layer::Family, 1, 5, letters)?;
         check_limits(Layer::Family, 2, 16, alphabet)?;
@@ -45,23 +47,25 @@ impl Words {
 
     // How many letters a word has.
     pub fn letters(&self) -> usize
-        ensures { result ≡ self.now.letters }
+        ensures { result ≡ letters_of self.now }
     {
         self.letters
     }
 
     // How many letters there are to choose from.
     pub fn alphabet(&self) -> usize
-        ensures { result ≡ self.now.alphabet }
+        ensures { result ≡ alphabet_of self.now }
     {
         self.alphabet
     }
 }
 
 impl Family for Words {
-    ghost vectors = { λ w. word_vectors w.letters w.alphabet };
+    ghost use Rattle.words.specs.Sizes.{letters_of, alphabet_of};
 
-    ghost matching = { λ f. words_family f.letters f.alphabet f.short f.choice f.few };
+    ghost vectors = { λ w. word_vectors (letters_of w) (alphabet_of w) };
+
+    ghost matching = { λ w. words_family w.letters w.alphabet w.short w.choice w.few };
 
     fn count(&self) -> usize {
         self.count

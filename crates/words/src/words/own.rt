@@ -8,12 +8,14 @@ use crate::words::Words;
 use arrayvec::ArrayVec;
 
 impl Words {
-    // The letters of a position, which are its digits in base q, the most significant first, written to a buffer.
+    // The letters of a position, which are its digits in base q, the most significant first, in a buffer that the caller
+    // lends. An `ArrayVec` that is pushed to and reversed in the end made products a tenth slower.
     fn spell<'a>(&self, t: usize, buffer: &'a mut [usize; 5]) -> &'a [usize]
         ensures { result.now ≡ row self.now.letters (letter self.now.letters self.now.alphabet t) }
     {
         let word = &mut buffer[..self.letters];
         let mut rest = t;
+        // The loop counts places, since no invariant can name what is written through `word.iter_mut().rev()`.
         for place in (0..word.len()).rev() {
             word[place] = rest % self.alphabet;
             rest /= self.alphabet;
@@ -22,7 +24,7 @@ impl Words {
     }
 
     // The own coordinates in rising order: coordinate 0, one for each place, and one for each two places. Past the last
-    // position there are none.
+    // position there are none. The loops stand in one function, so that no clause has to say what is found in between.
     pub(super) fn own(&self, t: usize) -> ArrayVec<usize, 16>
         ensures { result.items ≡ own_or_none self.now.letters self.now.alphabet t }
     {

@@ -8,23 +8,17 @@ loop-letter-init c = left_all (c.push.ensures.items ∙ ap (λ xs. xs ++ (0 ∷ 
 
 pub overflow_add-block : goal.overflow_add-block
 overflow_add-block c =
-    let step =
-    single_step c.args.self.now.short c.args.self.now.choice c.args.self.now.few _ c.spell-word.ensures
-    c.loop-letter.letter-index (omega arith) c.loop-letter.invariant in
+    let step = single_step c.args.self.now _ c.spell-word.ensures c.loop-letter.letter-index (omega arith) c.loop-letter.invariant in
     omega arith
 
 pub push-requires-in-loop-letter : goal.push-requires-in-loop-letter
 push-requires-in-loop-letter c =
-    let step =
-    single_step c.args.self.now.short c.args.self.now.choice c.args.self.now.few _ c.spell-word.ensures
-    c.loop-letter.letter-index (omega arith) c.loop-letter.invariant in
+    let step = single_step c.args.self.now _ c.spell-word.ensures c.loop-letter.letter-index (omega arith) c.loop-letter.invariant in
     (omega arith, step.room)
 
 pub loop-letter-preserved : goal.loop-letter-preserved
 loop-letter-preserved c =
-    let step =
-    single_step c.args.self.now.short c.args.self.now.choice c.args.self.now.few _ c.spell-word.ensures
-    c.loop-letter.letter-index (omega arith) c.loop-letter.invariant in
+    let step = single_step c.args.self.now _ c.spell-word.ensures c.loop-letter.letter-index (omega arith) c.loop-letter.invariant in
     rw c.push-in-loop-letter.ensures.items step.left
 
 pub loop-place-init : goal.loop-place-init
@@ -38,32 +32,27 @@ loop-second-init c =
 
 pub overflow_mul-first : goal.overflow_mul-first
 overflow_mul-first c =
-    let step =
-    pair_step c.args.self.now.short c.args.self.now.choice c.args.self.now.few _ c.spell-word.ensures c.loop-place.place c.loop-second.second-index (omega arith) (omega arith) c.loop-second.invariant in
+    let step = pair_step c.args.self.now _ c.spell-word.ensures c.loop-place.place c.loop-second.second-index (omega arith) (omega arith) c.loop-second.invariant in
     omega arith
 
 pub overflow_add-block-in-loop-second : goal.overflow_add-block-in-loop-second
 overflow_add-block-in-loop-second c =
-    let step =
-    pair_step c.args.self.now.short c.args.self.now.choice c.args.self.now.few _ c.spell-word.ensures c.loop-place.place c.loop-second.second-index (omega arith) (omega arith) c.loop-second.invariant in
+    let step = pair_step c.args.self.now _ c.spell-word.ensures c.loop-place.place c.loop-second.second-index (omega arith) (omega arith) c.loop-second.invariant in
     omega arith
 
 pub overflow_add-block-in-loop-second-2 : goal.overflow_add-block-in-loop-second-2
 overflow_add-block-in-loop-second-2 c =
-    let step =
-    pair_step c.args.self.now.short c.args.self.now.choice c.args.self.now.few _ c.spell-word.ensures c.loop-place.place c.loop-second.second-index (omega arith) (omega arith) c.loop-second.invariant in
+    let step = pair_step c.args.self.now _ c.spell-word.ensures c.loop-place.place c.loop-second.second-index (omega arith) (omega arith) c.loop-second.invariant in
     omega arith
 
 pub push-requires-in-loop-second : goal.push-requires-in-loop-second
 push-requires-in-loop-second c =
-    let step =
-    pair_step c.args.self.now.short c.args.self.now.choice c.args.self.now.few _ c.spell-word.ensures c.loop-place.place c.loop-second.second-index (omega arith) (omega arith) c.loop-second.invariant in
+    let step = pair_step c.args.self.now _ c.spell-word.ensures c.loop-place.place c.loop-second.second-index (omega arith) (omega arith) c.loop-second.invariant in
     (omega arith, step.room)
 
 pub loop-second-preserved : goal.loop-second-preserved
 loop-second-preserved c =
-    let step =
-    pair_step c.args.self.now.short c.args.self.now.choice c.args.self.now.few _ c.spell-word.ensures c.loop-place.place c.loop-second.second-index (omega arith) (omega arith) c.loop-second.invariant in
+    let step = pair_step c.args.self.now _ c.spell-word.ensures c.loop-place.place c.loop-second.second-index (omega arith) (omega arith) c.loop-second.invariant in
     rw c.push-in-loop-second.ensures.items step.left
 
 pub loop-place-preserved : goal.loop-place-preserved

@@ -7,7 +7,10 @@ use Rattle.words.proofs.words.WordsFamily.v.Goals as goal
 
 pub overflow_mul-result : goal.overflow_mul-result
 overflow_mul-result c =
-    let digit : c.u.result ≤ 5 = omega (arith, c.u.ensures, digit_lt c.args.self.now.letters c.args.self.now.alphabet (omega arith) (omega arith) (omega arith) (λ s. 1) (λ s. omega arith) c.args.i c.args.c) in
+    let told =
+    digit_lt c.args.self.now.letters c.args.self.now.alphabet c.args.self.now.short c.args.self.now.choice c.args.self.now.few
+    (λ s. 1) (λ s. omega arith) c.args.i c.args.c in
+    let digit : c.u.result ≤ 5 = omega (arith, c.u.ensures, told) in
     let heavy : c.weight.result ≤ 5 = omega (arith, c.weight.ensures, weight_lt c.args.self.now.letters (size_at c.args.self.now.letters c.args.self.now.alphabet c.args.c)) in
     omega (arith, mul-le-mul digit heavy)
 
