@@ -6,6 +6,7 @@ use Rattle.std.proofs.lemmas.List.Sums.{sum_by-cons}
 use Rattle.std.proofs.lemmas.Bool.{cases_eq, eq-eqb, ne_eqb, eqb-true, cond-true, cond-false, not_from_true, not_from_false}
 use Rattle.digits.specs.Sums.{total, same}
 use Rattle.family.specs.Vectors.{pairing}
+use Rattle.digits.specs.Elements.{times_digit}
 use Rattle.words.specs.Agreement.{agreements, differences, binomial, by_agreement}
 use Rattle.words.specs.Marks.{mark}
 use Rattle.words.specs.Places.{choose}
@@ -66,7 +67,7 @@ five q t t' some few l l' =
     ∙ eqb-true _ _ (from_each (λ d. eqb (d * d % 6) (get_or (0 ∷ 1 ∷ 4 ∷ 3 ∷ 4 ∷ 1 ∷ []) d 0)) 6 squares (distance 5 q t t') (omega arith))
 
 pub worked : WorkedCases
-unfolding total mark choose word_digit
+unfolding total mark choose word_digit times_digit
 worked =
     record {
       first_u = refl;
