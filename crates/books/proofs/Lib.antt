@@ -1,1 +1,6 @@
-pub mod Stages
+pub mod Finding
+pub mod Pairing
+pub mod Products
+pub mod Room
+pub mod Sections
+pub mod Writing

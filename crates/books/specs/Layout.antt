@@ -13,11 +13,15 @@ use Rattle.books.specs.Numbers.{big_endian, count_of, size_of}
 abbrev pub short_fault : ℕ → ℕ → List ℕ → Option Fault
 short_fault len whole rest = cond (nat_lt (length rest) len) (Some (length_fault whole)) None
 
+-- a number of so many bytes, which is refused unless it lies from 1 to the highest
+abbrev pub limited_fault : ℕ → ℕ → ℕ → List ℕ → Option Fault
+limited_fault len most whole rest = or_else (short_fault len whole rest) (limit_fault Family 1 most (big_endian len rest))
+
 abbrev pub dimension_fault : List ℕ → Option Fault
-dimension_fault bs = or_else (short_fault 2 (length bs) bs) (limit_fault Family 1 4096 (big_endian 2 bs))
+dimension_fault bs = limited_fault 2 4096 (length bs) bs
 
 abbrev pub count_fault : ℕ → List ℕ → Option Fault
-count_fault whole rest = or_else (short_fault 4 whole rest) (limit_fault Family 1 1024 (big_endian 4 rest))
+count_fault whole rest = limited_fault 4 1024 whole rest
 
 -- the second count has to be the first
 abbrev pub second_fault : ℕ → ℕ → List ℕ → Option Fault

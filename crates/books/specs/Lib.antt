@@ -8,5 +8,4 @@ pub mod Matching
 pub mod Firsts
 pub mod Telling
 pub mod Ordered
-pub mod Parts
-pub mod Places
+pub mod Reading

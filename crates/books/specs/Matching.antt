@@ -4,35 +4,15 @@ use Rattle.std.proofs.Math.Logic.{inl, inr}
 use Rattle.std.proofs.Math.Path.{sym, ap, subst}
 use Rattle.std.proofs.Common.{◌∙◌}
 use native.Mathlib.Omega.{arith}
-use Rattle.std.specs.List.{range_with_len}
-use Rattle.std.proofs.lemmas.List.FromFn.{length-range_with_len}
-use Rattle.std.proofs.lemmas.List.Sums.{prefix_len-le-length}
-use Rattle.std.proofs.lemmas.Bool.{cases_cond, cond-true, cond-false, eq-eqb, ne_eqb, eqb-true, eqb-false, both_ways}
+use Rattle.std.proofs.lemmas.Bool.{cases_cond, cond-true, eq-eqb, eqb-true, eqb-false, both_ways}
 use Rattle.family.specs.Vectors.{Vectors, Matches, pairing}
 use Rattle.family.proofs.Allowing.{allowed_from, allowed_passes}
 use Rattle.books.specs.Pairs.{fits, Keeps, FirstUnmatched, bad_partner, bad_position, bad_pair}
-use Rattle.books.specs.Firsts.{first_is, passes, fails}
+use Rattle.books.specs.Firsts.{first_most, first_is, passes, fails}
 use Rattle.digits.proofs.Passing.{passed, some≢none}
 
 taken_out : {X : Type 0} (x y : X) → ◌≡◌ {A = Option X} (Some x) (Some y) → x ≡ y
 taken_out x y e = cc
-
--- where each position before i fits with all, i decides
-module _ (f : Vectors) (i : ℕ) (before : (k : ℕ) → k < i → (bad_partner f k == f.count) ≡ true) where
-  pub bad_pair-at : (j : ℕ) → i < f.count → j ≡ bad_partner f i → (j ≢ f.count) → Some (i, j) ≡ bad_pair f
-  unfolding bad_position
-  bad_pair-at j h is ne =
-      let bad = ne_eqb (bad_partner f i) f.count (λ e. ne (is ∙ e)) in
-      let there : bad_position f ≡ i = first_is (λ k. nat_eq (bad_partner f k) f.count) f.count i (omega arith) before (λ l. bad) in
-      ap (λ y. Some (i, y)) is
-      ∙ sym (ap (λ x. Some (x, bad_partner f x)) there)
-      ∙ sym (cond-false _ _ _ (ne_eqb (bad_position f) f.count (omega arith)))
-
-  pub no_bad_pair : i ≡ f.count → None ≡ bad_pair f
-  unfolding bad_position
-  no_bad_pair e =
-      let there = first_is (λ k. nat_eq (bad_partner f k) f.count) f.count i (omega arith) before (λ l. absurd (omega arith)) in
-      sym (cond-true _ _ _ (eq-eqb (bad_position f) f.count (there ∙ e)))
 
 module _ (f : Vectors) where
   matches_from : ((i j : ℕ) → i < f.count → j < f.count → fits f i j ≡ true) → Matches f
@@ -68,7 +48,7 @@ module _ (f : Vectors) where
       (j < f.count) × (Keeps f i j → ⊥) × ((b : ℕ) → b < j → Keeps f i b)
   unfolding bad_partner
   bad_row i j h is ne =
-      let most : j ≤ f.count = omega (arith, prefix_len-le-length (fits f i) (range_with_len 0 f.count), length-range_with_len 0 f.count) in
+      let most : j ≤ f.count = omega (arith, first_most (fits f i) f.count) in
       let misfit : fits f i j ≡ false = ap (fits f i) is ∙ fails (fits f i) f.count (omega arith) in (
         omega arith,
         (λ keeps. both_ways (fits f i j) misfit (allowed_passes i j (pairing f i j) keeps)),
@@ -78,7 +58,7 @@ module _ (f : Vectors) where
   first_at : (i j : ℕ) → i ≡ bad_position f → j ≡ bad_partner f (bad_position f) → (bad_position f ≢ f.count) → FirstUnmatched f i j
   unfolding bad_position bad_partner
   first_at i j at_i at_j found =
-      let most : bad_position f ≤ f.count = omega (arith, prefix_len-le-length (λ k. nat_eq (bad_partner f k) f.count) (range_with_len 0 f.count), length-range_with_len 0 f.count) in
+      let most : bad_position f ≤ f.count = first_most (λ k. nat_eq (bad_partner f k) f.count) f.count in
       let inside : i < f.count = omega arith in
       let misfit : nat_eq (bad_partner f i) f.count ≡ false =
       ap (λ k. nat_eq (bad_partner f k) f.count) at_i ∙ fails (λ k. nat_eq (bad_partner f k) f.count) f.count (omega arith) in

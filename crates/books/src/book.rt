@@ -1,6 +1,5 @@
 // Books: families that are read from bytes and checked.
 pub mod as_family;
-mod rows;
 
 ghost use Rattle.std.specs.Prelude.{◌≡◌, ℕ, true, false, is_some, is_ok, Some, None, MatchResult};
 ghost use Rattle.std.specs.Result.{result_err};
@@ -13,6 +12,7 @@ ghost use Rattle.books.specs.Numbers.{count_of, dimension_of};
 ghost use Rattle.books.specs.Pairs.{FirstUnmatched};
 
 use crate::report::examine;
+use crate::rows::Rows;
 use faults::Fault;
 
 // A book: a family as bytes. Its dimension stands in 2 bytes; then come two sections, the vectors u and the vectors v,
@@ -28,15 +28,17 @@ pub struct Book {
     ghost wide: { dimension ≡ dimension_of bytes.items },
 }
 
-impl Book {
+impl TryFrom<Vec<u8>> for Book {
+    ghost use Rattle.books.specs.Reading.{Reads};
+
+    type Error = Fault;
+
+    ghost try_from_gives = { λ bytes result. Reads bytes result };
+
     // Reads a book. It is accepted exactly where its layout is in order and its vectors are a matching family. One whose
     // layout is in order is refused, if it is, with the first pair that breaks the matching rule.
-    pub fn read(bytes: Vec<u8>) -> Result<Book, Fault>
-        ensures cases { MatchResult result (λ b. (b.bytes ≡ bytes) × (book_fault bytes.items ≡ None)) (λ e. book_fault bytes.items ≡ Some e) }
-        ensures sound { is_ok result ≡ true → (layout_fault bytes.items ≡ None) × Matches (book_vectors bytes.items) }
-        ensures complete { layout_fault bytes.items ≡ None → Matches (book_vectors bytes.items) → is_ok result ≡ true }
-        ensures unmatched { layout_fault bytes.items ≡ None → (i j : ℕ) → result_err result ≡ Some (unmatched_fault i j) → FirstUnmatched (book_vectors bytes.items) i j }
-    {
+    #[tactic(auto, unfolding(crate::specs::Layout::layout_fault))]
+    fn try_from(bytes: Vec<u8>) -> Result<Book, Fault> {
         let report = examine(bytes.as_slice());
         report.verdict?;
         // a book that is accepted has told both
@@ -47,5 +49,20 @@ impl Book {
             count,
             dimension,
         })
+    }
+}
+
+impl Book {
+    // Its vectors, as rows of its bytes.
+    fn rows(&self) -> Rows<'_>
+        ensures bytes { result.bytes.now ≡ self.now.bytes.items }
+        ensures count { result.count ≡ self.now.count }
+        ensures dimension { result.dimension ≡ self.now.dimension }
+    {
+        Rows {
+            bytes: self.bytes.as_slice(),
+            count: self.count,
+            dimension: self.dimension,
+        }
     }
 }

@@ -3,11 +3,10 @@
 #![tactic(auto)]
 
 pub mod book;
-mod fields;
 mod pairs;
+mod reader;
 pub mod report;
-mod sections;
-mod vectors;
+mod rows;
 
 pub use book::Book;
 pub use report::{Report, examine};

@@ -3,14 +3,16 @@ ghost use Rattle.std.specs.Prelude.{◌≡◌, Some, None};
 ghost use Rattle.std.specs.Result.{result_err};
 ghost use Rattle.books.specs.BookVectors.{book_vectors};
 ghost use Rattle.books.specs.Books.{book_fault, told_dimension, told_count, told_pairs};
-ghost use Rattle.books.specs.Layout.{layout_fault};
-ghost use Rattle.books.specs.Numbers.{count_of, dimension_of};
 ghost use Rattle.books.specs.Pairs.{bad_pair, pairs_fault, tried};
 
-use crate::fields::{take_count, take_dimension};
-use crate::pairs::bad_pair;
-use crate::sections::check_sections;
+use crate::reader::{COUNT_LEN, DIMENSION_LEN, Reader};
+use crate::rows::Rows;
 use faults::Fault;
+
+// The limits of a book; each is at least 1.
+const MOST_COORDINATES: usize = 4096;
+
+const MOST_POSITIONS: usize = 1024;
 
 // What an examination has found when it ends.
 #[derive(Clone, Copy)]
@@ -26,19 +28,34 @@ pub struct Report {
 }
 
 impl Report {
-    // A book that is refused before its pairs are tried.
-    fn refused(dimension: Option<usize>, positions: Option<usize>, fault: Fault) -> Report
-        ensures dimension { result.dimension ≡ dimension }
-        ensures positions { result.positions ≡ positions }
-        ensures pairs { result.pairs ≡ None }
-        ensures verdict { result_err result.verdict ≡ Some fault }
+    // Reads a book front to back, its layout first and then its pairs, and keeps what it finds on the way.
+    #[tactic(auto, unfolding(crate::specs::Layout::layout_fault))]
+    fn fill(&mut self, bytes: &[u8]) -> Result<(), Fault>
+        requires dimension_open { self.old.dimension ≡ None }
+        requires positions_open { self.old.positions ≡ None }
+        requires pairs_open { self.old.pairs ≡ None }
+        ensures dimension { self.new.dimension ≡ told_dimension bytes.now }
+        ensures positions { self.new.positions ≡ told_count bytes.now }
+        ensures pairs { self.new.pairs ≡ told_pairs bytes.now }
+        ensures verdict { result_err result ≡ book_fault bytes.now }
     {
-        Report {
+        let mut reader = Reader::new(bytes);
+        let dimension = reader.limited_number(DIMENSION_LEN, MOST_COORDINATES)?;
+        self.dimension = Some(dimension);
+        let count = reader.limited_number(COUNT_LEN, MOST_POSITIONS)?;
+        self.positions = Some(count);
+        reader.sections(count, dimension)?;
+        let rows = Rows {
+            bytes,
+            count,
             dimension,
-            positions,
-            pairs: None,
-            verdict: Err(fault),
-        }
+        };
+        let (tried, verdict) = match rows.bad_pair() {
+            None => (count * count, Ok(())),
+            Some((i, j)) => (i * count + j + 1, Err(Fault::unmatched(i, j))),
+        };
+        self.pairs = Some(tried);
+        verdict
     }
 }
 
@@ -49,38 +66,12 @@ pub fn examine(bytes: &[u8]) -> Report
     ensures pairs { result.pairs ≡ told_pairs bytes.now }
     ensures verdict { result_err result.verdict ≡ book_fault bytes.now }
 {
-    let (dimension, rest) = match take_dimension(bytes) {
-        Ok(part) => part,
-        Err(fault) => return Report::refused(None, None, fault),
+    let mut report = Report {
+        dimension: None,
+        positions: None,
+        pairs: None,
+        verdict: Ok(()),
     };
-    let (count, rest) = match take_count(rest, bytes.len()) {
-        Ok(part) => part,
-        Err(fault) => return Report::refused(Some(dimension), None, fault),
-    };
-    if let Err(fault) = check_sections(rest, bytes.len(), count, dimension) {
-        return Report::refused(Some(dimension), Some(count), fault);
-    }
-    examine_pairs(bytes, count, dimension)
-}
-
-// The report on a book whose layout is in order.
-fn examine_pairs(bytes: &[u8], count: usize, dimension: usize) -> Report
-    requires order { layout_fault bytes.now ≡ None }
-    requires counted { count ≡ count_of bytes.now }
-    requires wide { dimension ≡ dimension_of bytes.now }
-    ensures dimension { result.dimension ≡ Some dimension }
-    ensures positions { result.positions ≡ Some count }
-    ensures pairs { result.pairs ≡ Some (tried count (bad_pair (book_vectors bytes.now))) }
-    ensures verdict { result_err result.verdict ≡ pairs_fault (book_vectors bytes.now) }
-{
-    let (tried, verdict) = match bad_pair(bytes, count, dimension) {
-        None => (count * count, Ok(())),
-        Some((i, j)) => (i * count + j + 1, Err(Fault::unmatched(i, j))),
-    };
-    Report {
-        dimension: Some(dimension),
-        positions: Some(count),
-        pairs: Some(tried),
-        verdict,
-    }
+    report.verdict = report.fill(bytes);
+    report
 }

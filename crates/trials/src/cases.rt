@@ -76,7 +76,7 @@ fn of_part(heap: Global, m: usize, n: usize, rest: &[&str]) -> Result<String, Al
 
 // A book.
 fn of_book(heap: Global, bytes: Vec<u8>, rest: &[&str]) -> Result<String, AllocError> {
-    match Book::read(bytes) {
+    match Book::try_from(bytes) {
         Ok(family) => ask(heap, &family, rest),
         Err(fault) => refusal(heap, &fault),
     }

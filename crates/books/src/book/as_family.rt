@@ -21,15 +21,15 @@ impl Family for Book {
     }
 
     fn u(&self, i: usize, c: usize) -> u8 {
-        digit_at(self.u_row(i), c)
+        digit_at(self.rows().u(i), c)
     }
 
     fn v(&self, i: usize, c: usize) -> u8 {
-        digit_at(self.v_row(i), c)
+        digit_at(self.rows().v(i), c)
     }
 
     // The digits of u(i) stand one after the other, so they are multiplied as a row.
     fn u_product(&self, i: usize, row: &[u8]) -> u8 {
-        dot(self.u_row(i), row)
+        dot(self.rows().u(i), row)
     }
 }
