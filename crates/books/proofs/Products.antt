@@ -7,26 +7,26 @@ use Rattle.digits.specs.Sums.{product}
 use Rattle.digits.proofs.Sums.{product_cong, product_none, product_zero}
 use Rattle.family.specs.Vectors.{allowed}
 use Rattle.family.specs.Within.{within_past_count}
-use Rattle.books.specs.BookVectors.{digit_from, book_vectors}
+use Rattle.books.specs.BookVectors.{book_vectors}
 use Rattle.books.specs.Numbers.{dimension_of, count_of}
 use Rattle.books.specs.Pairs.{fits}
 
-module _ (bs : List ℕ) (n k i : ℕ) (counted : n ≡ count_of bs) (wide : k ≡ dimension_of bs) (x : List ℕ) where
-  -- a row that holds a vector, or is empty past the last position, has the vector's products
-  pub vector_product : (start : ℕ) → ((c : ℕ) → at x c ≡ digit_from start bs i c) → length x ≡ cond (nat_lt i n) k 0 → (y : ℕ → ℕ) →
-      product (length x) (at x) y ≡ product (dimension_of bs) (digit_from start bs i) y
-  vector_product start digits long y =
-      elim (cases_lt i n) [
-        | inl h ↦
-            ap (λ m. product m (at x) y) (long ∙ cond-true _ _ _ (lt-ltb i n h) ∙ wide)
-            ∙ product_cong (dimension_of bs) (at x) y (digit_from start bs i) y (λ c l. digits c) (λ c l. refl)
-        | inr past ↦
-            ap (λ m. product m (at x) y) (long ∙ cond-false _ _ _ (le-ltb i n past)) ∙ product_none (at x) y
-            ∙ sym (product_zero (dimension_of bs) (digit_from start bs i) y (λ c l. within_past_count (count_of bs) (dimension_of bs) (λ m d. at bs (start + m * dimension_of bs + d)) i c (omega arith)))
-      ]
+-- a row that holds u(i), or is empty past the last position, has the products of u(i)
+pub u_times : (bs : List ℕ) (n k i : ℕ) (x y : List ℕ) → n ≡ count_of bs → k ≡ dimension_of bs →
+    ((c : ℕ) → at x c ≡ (book_vectors bs).u i c) → length x ≡ cond (nat_lt i n) k 0 →
+    product (length x) (at x) (at y) ≡ product (dimension_of bs) ((book_vectors bs).u i) (at y)
+u_times bs n k i x y counted wide digits long =
+    elim (cases_lt i n) [
+      | inl h ↦
+          ap (λ m. product m (at x) (at y)) (long ∙ cond-true _ _ _ (lt-ltb i n h) ∙ wide)
+          ∙ product_cong (dimension_of bs) (at x) (at y) ((book_vectors bs).u i) (at y) (λ c l. digits c) (λ c l. refl)
+      | inr past ↦
+          ap (λ m. product m (at x) (at y)) (long ∙ cond-false _ _ _ (le-ltb i n past)) ∙ product_none (at x) (at y)
+          ∙ sym (product_zero (dimension_of bs) ((book_vectors bs).u i) (at y) (λ c l. within_past_count (count_of bs) (dimension_of bs) (λ m d. at bs (6 + m * dimension_of bs + d)) i c (omega arith)))
+    ]
 
-  pub fits_is : (j : ℕ) (y : List ℕ) → ((c : ℕ) → at x c ≡ (book_vectors bs).u i c) → length x ≡ cond (nat_lt i n) k 0 →
-      ((c : ℕ) → at y c ≡ (book_vectors bs).v j c) → allowed i j (product (length x) (at x) (at y)) ≡ fits (book_vectors bs) i j
-  fits_is j y here long there =
-      ap (allowed i j) (vector_product 6 here long (at y)
-      ∙ product_cong (dimension_of bs) ((book_vectors bs).u i) (at y) ((book_vectors bs).u i) ((book_vectors bs).v j) (λ c l. refl) (λ c l. there c))
+-- a row that has v(j)'s digits tells whether i and j fit
+pub fits_is : (bs : List ℕ) (i j : ℕ) (y : List ℕ) → ((c : ℕ) → at y c ≡ (book_vectors bs).v j c) →
+    allowed i j (product (dimension_of bs) ((book_vectors bs).u i) (at y)) ≡ fits (book_vectors bs) i j
+fits_is bs i j y there =
+    ap (allowed i j) (product_cong (dimension_of bs) ((book_vectors bs).u i) (at y) ((book_vectors bs).u i) ((book_vectors bs).v j) (λ c l. refl) (λ c l. there c))

@@ -1,15 +1,9 @@
 // Books: families that are read from bytes and checked.
 pub mod as_family;
 
-ghost use Rattle.std.specs.Prelude.{◌≡◌, ℕ, true, false, is_some, is_ok, Some, None, MatchResult};
-ghost use Rattle.std.specs.Result.{result_err};
-ghost use Rattle.faults.specs.Faults.{unmatched_fault};
-ghost use Rattle.family.specs.Vectors.{Matches};
-ghost use Rattle.books.specs.BookVectors.{book_vectors};
+ghost use Rattle.std.specs.Prelude.{◌≡◌, false, is_some};
 ghost use Rattle.books.specs.Books.{book_fault};
-ghost use Rattle.books.specs.Layout.{layout_fault};
 ghost use Rattle.books.specs.Numbers.{count_of, dimension_of};
-ghost use Rattle.books.specs.Pairs.{FirstUnmatched};
 
 use crate::report::examine;
 use crate::rows::Rows;

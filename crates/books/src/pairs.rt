@@ -6,7 +6,6 @@ ghost use Rattle.books.specs.Numbers.{count_of};
 ghost use Rattle.books.specs.Pairs.{fits, bad_partner, bad_pair};
 
 use crate::rows::Rows;
-use digits::dot;
 
 // Whether the matching rule allows a product at positions i and j.
 fn is_allowed(i: usize, j: usize, product: u8) -> bool
@@ -24,7 +23,8 @@ impl Rows<'_> {
     fn fits(&self, i: usize, j: usize) -> bool
         ensures { result ≡ fits (book_vectors self.now.bytes.now) i j }
     {
-        is_allowed(i, j, dot(self.u(i), self.v(j)))
+        let v = self.v(j);
+        is_allowed(i, j, self.u_product(i, v))
     }
 
     // The first j that does not fit with i.

@@ -1,8 +1,10 @@
 // The examination of a book, and what it tells.
-ghost use Rattle.std.specs.Prelude.{◌≡◌, Some, None};
+ghost use Rattle.std.specs.Prelude.{◌≡◌, Some, None, IfOk};
 ghost use Rattle.std.specs.Result.{result_err};
 ghost use Rattle.books.specs.BookVectors.{book_vectors};
 ghost use Rattle.books.specs.Books.{book_fault, told_dimension, told_count, told_pairs};
+ghost use Rattle.books.specs.Layout.{layout_fault};
+ghost use Rattle.books.specs.Numbers.{count_of};
 ghost use Rattle.books.specs.Pairs.{bad_pair, pairs_fault, tried};
 
 use crate::reader::{COUNT_LEN, DIMENSION_LEN, Reader};
@@ -28,16 +30,16 @@ pub struct Report {
 }
 
 impl Report {
-    // Reads a book front to back, its layout first and then its pairs, and keeps what it finds on the way.
+    // Reads the layout, and tells the dimension and the count on the way.
     #[tactic(auto, unfolding(crate::specs::Layout::layout_fault))]
-    fn fill(&mut self, bytes: &[u8]) -> Result<(), Fault>
+    fn read_layout<'a>(&mut self, bytes: &'a [u8]) -> Result<Rows<'a>, Fault>
         requires dimension_open { self.old.dimension ≡ None }
         requires positions_open { self.old.positions ≡ None }
-        requires pairs_open { self.old.pairs ≡ None }
         ensures dimension { self.new.dimension ≡ told_dimension bytes.now }
         ensures positions { self.new.positions ≡ told_count bytes.now }
-        ensures pairs { self.new.pairs ≡ told_pairs bytes.now }
-        ensures verdict { result_err result ≡ book_fault bytes.now }
+        ensures pairs { self.new.pairs ≡ self.old.pairs }
+        ensures fault { result_err result ≡ layout_fault bytes.now }
+        ensures rows { IfOk result (λ rows. rows.bytes.now ≡ bytes.now) }
     {
         let mut reader = Reader::new(bytes);
         let dimension = reader.limited_number(DIMENSION_LEN, MOST_COORDINATES)?;
@@ -45,17 +47,45 @@ impl Report {
         let count = reader.limited_number(COUNT_LEN, MOST_POSITIONS)?;
         self.positions = Some(count);
         reader.sections(count, dimension)?;
-        let rows = Rows {
+        Ok(Rows {
             bytes,
             count,
             dimension,
-        };
-        let (tried, verdict) = match rows.bad_pair() {
-            None => (count * count, Ok(())),
-            Some((i, j)) => (i * count + j + 1, Err(Fault::unmatched(i, j))),
-        };
-        self.pairs = Some(tried);
-        verdict
+        })
+    }
+
+    // Tries the pairs, and tells how many up to the first bad one.
+    #[tactic(auto, using(crate::proofs::Room::room))]
+    fn try_pairs(&mut self, rows: &Rows) -> Result<(), Fault>
+        ensures pairs { self.new.pairs ≡ Some (tried (count_of rows.now.bytes.now) (bad_pair (book_vectors rows.now.bytes.now))) }
+        ensures fault { result_err result ≡ pairs_fault (book_vectors rows.now.bytes.now) }
+        ensures dimension { self.new.dimension ≡ self.old.dimension }
+        ensures positions { self.new.positions ≡ self.old.positions }
+    {
+        match rows.bad_pair() {
+            None => {
+                self.pairs = Some(rows.count * rows.count);
+                Ok(())
+            }
+            Some((i, j)) => {
+                self.pairs = Some(i * rows.count + j + 1);
+                Err(Fault::unmatched(i, j))
+            }
+        }
+    }
+
+    // Reads the layout and then tries the pairs.
+    fn fill(&mut self, bytes: &[u8]) -> Result<(), Fault>
+        requires dimension_open { self.old.dimension ≡ None }
+        requires positions_open { self.old.positions ≡ None }
+        requires pairs_open { self.old.pairs ≡ None }
+        ensures dimension { self.new.dimension ≡ told_dimension bytes.now }
+        ensures positions { self.new.positions ≡ told_count bytes.now }
+        ensures pairs { self.new.pairs ≡ told_pairs bytes.now }
+        ensures fault { result_err result ≡ book_fault bytes.now }
+    {
+        let rows = self.read_layout(bytes)?;
+        self.try_pairs(&rows)
     }
 }
 

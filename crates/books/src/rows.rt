@@ -1,11 +1,13 @@
 // The vectors of a book whose layout is in order, as rows of its bytes.
 ghost use Rattle.std.specs.Prelude.{◌≡◌, ℕ, ◌+◌, ◌*◌, ◌≤◌, false, is_some, length, if◌then◌else◌, nat_lt};
 ghost use Rattle.digits.specs.Rows.{at};
+ghost use Rattle.digits.specs.Sums.{product};
 ghost use Rattle.books.specs.BookVectors.{digit_from, book_vectors};
 ghost use Rattle.books.specs.Layout.{layout_fault};
 ghost use Rattle.books.specs.Numbers.{count_of, dimension_of};
 
 use crate::reader::{COUNT_LEN, DIMENSION_LEN};
+use digits::dot;
 
 // Where the digits of the first section begin.
 const FIRST_START: usize = DIMENSION_LEN + COUNT_LEN;
@@ -51,5 +53,13 @@ impl<'a> Rows<'a> {
         ensures { (c : ℕ) → at result.now c ≡ (book_vectors self.now.bytes.now).v i c }
     {
         self.row(FIRST_START + self.count * self.dimension + COUNT_LEN, i)
+    }
+
+    // The product of u(i) and a row; digits past the row's end count as 0.
+    #[tactic(auto, using(crate::proofs::Products::u_times))]
+    pub(crate) fn u_product(&self, i: usize, row: &[u8]) -> u8
+        ensures { result ≡ product (dimension_of self.now.bytes.now) ((book_vectors self.now.bytes.now).u i) (at row.now) }
+    {
+        dot(self.u(i), row)
     }
 }

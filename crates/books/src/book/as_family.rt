@@ -4,7 +4,7 @@ ghost use Rattle.books.specs.Accepting.{accepted_none};
 ghost use Rattle.books.specs.Telling.{book_family};
 
 use crate::book::Book;
-use digits::{digit_at, dot};
+use digits::digit_at;
 use family::Family;
 
 impl Family for Book {
@@ -30,6 +30,6 @@ impl Family for Book {
 
     // The digits of u(i) stand one after the other, so they are multiplied as a row.
     fn u_product(&self, i: usize, row: &[u8]) -> u8 {
-        dot(self.rows().u(i), row)
+        self.rows().u_product(i, row)
     }
 }
