@@ -21,16 +21,15 @@ impl Add for Element {
     }
 }
 
-// Digit r of a product, below 6: the sum of all a(i) b(j) where i + j leaves r modulo 6. To each i there is one such j, so
+// Digit r of a product, r taken modulo 6: the sum of all a(i) b(j) where i + j leaves r. To each i there is one such j, so
 // the digits of b stand backward, from j = r on.
 fn product_digit(a: &Element, b: &Element, r: usize) -> u8
-    requires { r < 6 }
-    ensures value { result ≡ times_digit a.now.digits b.now.digits r }
+    ensures value { result ≡ times_digit a.now.digits b.now.digits (r % 6) }
     ensures small { result < 6 }
 {
     let mut partners = b.digits;
     partners.reverse();
-    partners.rotate_left(5 - r);
+    partners.rotate_left(5 - r % 6);
     dot(&a.digits, &partners)
 }
 
