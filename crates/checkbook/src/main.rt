@@ -6,15 +6,14 @@ mod summary;
 
 use books::examine;
 use std::io::Read;
-use summary::summary_of;
+use summary::Summary;
 
 // Examines the whole of standard input as a book, and prints the summary.
 fn run(rt: &HostRuntime) -> anyhow::Result<()> {
     let mut bytes = Vec::new(rt.alloc());
     let _ = rt.stdin().read_to_end(&mut bytes)?;
     let report = examine(bytes.as_slice());
-    let text = summary_of(rt.alloc(), &report)?;
-    print!(rt; "{text}")?;
+    print!(rt; "{}", Summary(&report))?;
     Ok(())
 }
 

@@ -1,41 +1,80 @@
 // The summary of an examination: a line for each thing found, and the verdict last.
-ghost use Rattle.std.specs.Prelude.{◌≡◌, IfOk, string_bytes};
+ghost use Rattle.std.specs.Prelude.{Some};
 ghost use Rattle.checkbook.specs.Summaries.{found_line, summary, verdict_line};
 
 use books::Report;
 use faults::Fault;
-use std::alloc::{AllocError, Global};
+use std::fmt;
 
 // A line with a word and a number, where the number was found; else no text.
-fn found_line(heap: Global, word: &str, found: Option<usize>) -> Result<String, AllocError>
-    ensures { IfOk result (λ s. string_bytes s ≡ found_line word.now found) }
-{
-    match found {
-        Some(number) => format!(in heap; "{word} {number}\n"),
-        None => Ok(String::new(heap)),
+#[derive(Clone, Copy)]
+struct FoundLine<'a> {
+    word: &'a str,
+    found: Option<usize>,
+}
+
+impl fmt::Display for FoundLine<'_> {
+    ghost output = { λ line. Some (found_line line.word.now line.found) };
+
+    fn fmt<W: fmt::Write>(&self, f: &mut fmt::Formatter<W>) -> fmt::Result {
+        let word = self.word;
+        match self.found {
+            Some(number) => writeln!(f, "{word} {number}"),
+            None => Ok(()),
+        }
     }
 }
 
 // The line that says that the book is accepted, or with which fault it is refused.
-fn verdict_line(heap: Global, verdict: &Result<(), Fault>) -> Result<String, AllocError>
-    ensures { IfOk result (λ s. string_bytes s ≡ verdict_line verdict.now) }
-{
-    match verdict {
-        Ok(_) => String::from_str(heap, "accepted\n"),
-        Err(fault) => {
-            let cause = fault.cause;
-            format!(in heap; "refused {cause}\n")
+#[derive(Clone, Copy)]
+struct VerdictLine<'a>(&'a Result<(), Fault>);
+
+impl fmt::Display for VerdictLine<'_> {
+    ghost output = { λ line. Some (verdict_line line.0.now) };
+
+    fn fmt<W: fmt::Write>(&self, f: &mut fmt::Formatter<W>) -> fmt::Result {
+        match self.0 {
+            Ok(_) => writeln!(f, "accepted"),
+            Err(fault) => writeln!(f, "refused {}", fault.cause),
         }
     }
 }
 
 // The whole summary.
-pub fn summary_of(heap: Global, report: &Report) -> Result<String, AllocError>
-    ensures { IfOk result (λ s. string_bytes s ≡ summary report.now) }
-{
-    let dimension = found_line(heap, "dimension", report.dimension)?;
-    let positions = found_line(heap, "positions", report.positions)?;
-    let pairs = found_line(heap, "pairs", report.pairs)?;
-    let verdict = verdict_line(heap, &report.verdict)?;
-    format!(in heap; "{dimension}{positions}{pairs}{verdict}")
+#[derive(Clone, Copy)]
+pub struct Summary<'a>(pub &'a Report);
+
+impl fmt::Display for Summary<'_> {
+    ghost output = { λ s. Some (summary s.0.now) };
+
+    fn fmt<W: fmt::Write>(&self, f: &mut fmt::Formatter<W>) -> fmt::Result {
+        let report = self.0;
+        let line = |word, found| FoundLine { word, found };
+        let dimension = line("dimension", report.dimension);
+        let positions = line("positions", report.positions);
+        let pairs = line("pairs", report.pairs);
+        let verdict = VerdictLine(&report.verdict);
+        write!(f, "{dimension}{positions}{pairs}{verdict}")
+    }
+}
+
+#[cfg(test)]
+mod tests {
+    use super::*;
+    use faults::Layer;
+    use std::test::Fail;
+
+    // The stored output is that of a book in order, and no clause says that the text of another can be written.
+    #[test]
+    fn refused_book_is_told(rt: HostRuntime) -> Result<(), Fail> {
+        let report = Report {
+            dimension: Some(3),
+            positions: None,
+            pairs: None,
+            verdict: Err(Fault::size(Layer::Family, 0)),
+        };
+        let text = format!(in rt.alloc(); "{}", Summary(&report))?;
+        assert_eq!(rt; text.as_str(), "dimension 3\nrefused 3 size 0\n");
+        Ok(())
+    }
 }
