@@ -1,95 +1,80 @@
 // Trials of elements, vectors of digits and tapes.
-use crate::text::{byte, bytes_of, number, refusal, spaced};
+use crate::stop::Stop;
+use crate::text::{Refusal, Spaced, bytes_of, number};
 use digits::{Element, draw, vector_product};
+use faults::Fault;
 use std::alloc::{AllocError, Global};
+use std::fmt;
 
 // An element's digits, as it writes them to a row of six.
-fn shown(heap: Global, element: &Element) -> Result<String, AllocError> {
-    let mut row = [9u8; 6];
-    match element.write(&mut row) {
-        Ok(_) => spaced(heap, &row),
-        Err(fault) => refusal(heap, &fault),
+#[derive(Clone, Copy)]
+struct Shown(Element);
+
+impl fmt::Display for Shown {
+    fn fmt<W: fmt::Write>(&self, f: &mut fmt::Formatter<W>) -> fmt::Result {
+        let mut row = [9u8; 6];
+        self.0.write(&mut row).unwrap();
+        write!(f, "{}", Spaced(&row))
+    }
+}
+
+// The element that a word writes.
+fn element_of(heap: Global, word: &str) -> Result<Element, Stop> {
+    Ok(Element::try_from(bytes_of(heap, word)?.as_slice())?)
+}
+
+// A row as a call left it, under a name; the refusal comes first where the call was refused.
+fn row_after(
+    heap: Global,
+    came: Result<(), Fault>,
+    name: &str,
+    row: &[u8],
+) -> Result<String, AllocError> {
+    let row = Spaced(row);
+    match came {
+        Ok(_) => format!(in heap; "{name}{row}"),
+        Err(fault) => format!(in heap; "{} {name}{row}", Refusal(fault)),
     }
 }
 
 // An element written over a row of any length.
-pub(crate) fn written(heap: Global, row: &str, over: &str) -> Result<String, AllocError> {
-    match Element::read(bytes_of(heap, row)?.as_slice()) {
-        Ok(e) => {
-            let mut place = bytes_of(heap, over)?;
-            let came = e.write(place.as_mut_slice());
-            let after = spaced(heap, place.as_slice())?;
-            match came {
-                Ok(_) => format!(in heap; "row{after}"),
-                Err(fault) => {
-                    let why = refusal(heap, &fault)?;
-                    format!(in heap; "{why} row{after}")
-                }
-            }
-        }
-        Err(fault) => refusal(heap, &fault),
-    }
+pub(crate) fn written(heap: Global, row: &str, over: &str) -> Result<String, Stop> {
+    let element = element_of(heap, row)?;
+    let mut place = bytes_of(heap, over)?;
+    let came = element.write(&mut place);
+    Ok(row_after(heap, came, "row", &place)?)
 }
 
 // One element: read, turned and scaled.
-pub(crate) fn alone(
-    heap: Global,
-    row: &str,
-    turn: &str,
-    scale: &str,
-) -> Result<String, AllocError> {
-    match Element::read(bytes_of(heap, row)?.as_slice()) {
-        Ok(e) => {
-            let same = shown(heap, &e)?;
-            let turned = shown(heap, &e.turned(number(turn)))?;
-            let scaled = shown(heap, &e.scaled(byte(scale)))?;
-            let digit = e.digit(number(turn));
-            format!(in heap; "read{same} turned{turned} scaled{scaled} digit {digit}")
-        }
-        Err(fault) => refusal(heap, &fault),
-    }
+pub(crate) fn alone(heap: Global, row: &str, turn: &str, scale: &str) -> Result<String, Stop> {
+    let element = element_of(heap, row)?;
+    let turn = number(turn);
+    let same = Shown(element);
+    let turned = Shown(element.turned(turn));
+    let scaled = Shown(element.scaled(number(scale)));
+    let digit = element.digit(turn);
+    Ok(format!(in heap; "read{same} turned{turned} scaled{scaled} digit {digit}")?)
 }
 
-// Two elements: their sum and their product. The first that cannot be read is refused.
-pub(crate) fn together(heap: Global, one: &str, two: &str) -> Result<String, AllocError> {
-    match Element::read(bytes_of(heap, one)?.as_slice()) {
-        Ok(first) => match Element::read(bytes_of(heap, two)?.as_slice()) {
-            Ok(second) => joined(heap, first, second),
-            Err(fault) => refusal(heap, &fault),
-        },
-        Err(fault) => refusal(heap, &fault),
-    }
-}
-
-// The sum and the product of two elements, and whether they are the same.
-fn joined(heap: Global, first: Element, second: Element) -> Result<String, AllocError> {
-    let sum = shown(heap, &(first + second))?;
-    let product = shown(heap, &(first * second))?;
+// Two elements: their sum, their product, and whether they are the same.
+pub(crate) fn together(heap: Global, one: &str, two: &str) -> Result<String, Stop> {
+    let first = element_of(heap, one)?;
+    let second = element_of(heap, two)?;
+    let sum = Shown(first + second);
+    let product = Shown(first * second);
     let same = first == second;
-    format!(in heap; "sum{sum} product{product} same {same}")
+    Ok(format!(in heap; "sum{sum} product{product} same {same}")?)
 }
 
 // The product of two vectors.
-pub(crate) fn multiplied(heap: Global, one: &str, two: &str) -> Result<String, AllocError> {
-    match vector_product(
-        bytes_of(heap, one)?.as_slice(),
-        bytes_of(heap, two)?.as_slice(),
-    ) {
-        Ok(product) => format!(in heap; "product {product}"),
-        Err(fault) => refusal(heap, &fault),
-    }
+pub(crate) fn multiplied(heap: Global, one: &str, two: &str) -> Result<String, Stop> {
+    let product = vector_product(&bytes_of(heap, one)?, &bytes_of(heap, two)?)?;
+    Ok(format!(in heap; "product {product}")?)
 }
 
 // A tape drawn from random bytes, over what it held before.
 pub(crate) fn drawn(heap: Global, bytes: &str, tape: &str) -> Result<String, AllocError> {
     let mut row = bytes_of(heap, tape)?;
-    let came = draw(bytes_of(heap, bytes)?.as_slice(), row.as_mut_slice());
-    let after = spaced(heap, row.as_slice())?;
-    match came {
-        Ok(_) => format!(in heap; "tape{after}"),
-        Err(fault) => {
-            let why = refusal(heap, &fault)?;
-            format!(in heap; "{why} tape{after}")
-        }
-    }
+    let came = draw(&bytes_of(heap, bytes)?, &mut row);
+    row_after(heap, came, "tape", &row)
 }

@@ -1,5 +1,5 @@
 // Trials of a family: its sizes, the vectors of a position, and the product and the spreading of one with a row.
-use crate::text::{byte, bytes_of, number, spaced};
+use crate::text::{Spaced, bytes_of, number};
 use family::Family;
 use std::alloc::{AllocError, Global};
 
@@ -16,7 +16,7 @@ pub(crate) fn ask<F: Family>(
             heap,
             family,
             number(i),
-            byte(amount),
+            number(amount),
             number(e),
             bytes_of(heap, row)?,
         ),
@@ -26,22 +26,15 @@ pub(crate) fn ask<F: Family>(
 
 // The count and the dimension.
 fn sizes<F: Family>(heap: Global, family: &F) -> Result<String, AllocError> {
-    let count = family.count();
-    let dimension = family.dimension();
-    format!(in heap; "count {count} dimension {dimension}")
+    format!(in heap; "count {} dimension {}", family.count(), family.dimension())
 }
 
 // The vectors of a position, with one digit past the last coordinate.
 fn vectors<F: Family>(heap: Global, family: &F, i: usize) -> Result<String, AllocError> {
-    let mut u = Vec::new(heap);
-    let mut v = Vec::new(heap);
-    for c in 0..family.dimension().saturating_add(1) {
-        u.push(family.u(i, c))?;
-        v.push(family.v(i, c))?;
-    }
-    let first = spaced(heap, u.as_slice())?;
-    let second = spaced(heap, v.as_slice())?;
-    format!(in heap; "u{first} v{second}")
+    let past = family.dimension().saturating_add(1);
+    let u: Vec<u8> = (0..past).map(|c| family.u(i, c)).collect(heap)?;
+    let v: Vec<u8> = (0..past).map(|c| family.v(i, c)).collect(heap)?;
+    format!(in heap; "u{} v{}", Spaced(&u), Spaced(&v))
 }
 
 // The product of a position's u with a row, and that row once an amount is spread over it.
@@ -53,8 +46,7 @@ fn worked<F: Family>(
     e: usize,
     mut row: Vec<u8>,
 ) -> Result<String, AllocError> {
-    let product = family.u_product(i, row.as_slice());
-    family.spread(i, amount, e, row.as_mut_slice());
-    let after = spaced(heap, row.as_slice())?;
-    format!(in heap; "product {product} spread{after}")
+    let product = family.u_product(i, &row);
+    family.spread(i, amount, e, &mut row);
+    format!(in heap; "product {product} spread{}", Spaced(&row))
 }

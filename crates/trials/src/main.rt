@@ -6,6 +6,7 @@ mod cases;
 mod elements;
 mod families;
 mod reports;
+mod stop;
 mod text;
 
 use cases::answer_to;

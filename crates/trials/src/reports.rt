@@ -1,24 +1,48 @@
 // Trials of an examination: what a report on a book holds.
-use crate::text::refusal;
+use crate::text::Refusal;
 use books::Report;
-use std::alloc::{AllocError, Global};
+use faults::Fault;
+use std::fmt;
 
 // A number that was found, or a dash.
-fn shown(heap: Global, found: Option<usize>) -> Result<String, AllocError> {
-    match found {
-        Some(number) => format!(in heap; "{number}"),
-        None => String::from_str(heap, "-"),
+#[derive(Clone, Copy)]
+struct Found(Option<usize>);
+
+impl fmt::Display for Found {
+    fn fmt<W: fmt::Write>(&self, f: &mut fmt::Formatter<W>) -> fmt::Result {
+        match self.0 {
+            Some(number) => write!(f, "{number}"),
+            None => f.write_str("-"),
+        }
+    }
+}
+
+// That a book is accepted, or its refusal.
+#[derive(Clone, Copy)]
+struct Verdict(Result<(), Fault>);
+
+impl fmt::Display for Verdict {
+    fn fmt<W: fmt::Write>(&self, f: &mut fmt::Formatter<W>) -> fmt::Result {
+        match self.0 {
+            Ok(_) => f.write_str("accepted"),
+            Err(fault) => write!(f, "{}", Refusal(fault)),
+        }
     }
 }
 
 // A report in one line.
-pub(crate) fn found(heap: Global, report: &Report) -> Result<String, AllocError> {
-    let dimension = shown(heap, report.dimension)?;
-    let positions = shown(heap, report.positions)?;
-    let pairs = shown(heap, report.pairs)?;
-    let verdict = match &report.verdict {
-        Ok(_) => String::from_str(heap, "accepted")?,
-        Err(fault) => refusal(heap, fault)?,
-    };
-    format!(in heap; "dimension {dimension} positions {positions} pairs {pairs} {verdict}")
+#[derive(Clone, Copy)]
+pub(crate) struct Told(pub(crate) Report);
+
+impl fmt::Display for Told {
+    fn fmt<W: fmt::Write>(&self, f: &mut fmt::Formatter<W>) -> fmt::Result {
+        let dimension = Found(self.0.dimension);
+        let positions = Found(self.0.positions);
+        let pairs = Found(self.0.pairs);
+        let verdict = Verdict(self.0.verdict);
+        write!(
+            f,
+            "dimension {dimension} positions {positions} pairs {pairs} {verdict}"
+        )
+    }
 }

@@ -1,25 +1,34 @@
 // Text in and out: numbers, rows of bytes as two hexadecimal digits each, rows of digits, and refusals.
+ghost use Rattle.std.specs.Prelude.{◌<◌};
+
 use faults::Fault;
 use std::alloc::{AllocError, Global};
+use std::fmt;
+use std::num::ParseIntError;
+use std::str::FromStr;
+
+// A kind of number that a word can write, with the largest there is.
+pub(crate) trait Bounded: FromStr<Err = ParseIntError> + Drop {
+    const MAX: Self;
+}
+
+impl Bounded for u8 {
+    const MAX: u8 = u8::MAX;
+}
+
+impl Bounded for usize {
+    const MAX: usize = usize::MAX;
+}
 
 // The number that a word writes in base ten, or the largest there is where it writes none.
-pub(crate) fn number(word: &str) -> usize {
-    match word.parse::<usize>() {
-        Ok(n) => n,
-        Err(_) => usize::MAX,
-    }
+pub(crate) fn number<N: Bounded>(word: &str) -> N {
+    word.parse().unwrap_or(N::MAX)
 }
 
-// The same, where a byte is wanted.
-pub(crate) fn byte(word: &str) -> u8 {
-    match word.parse::<u8>() {
-        Ok(n) => n,
-        Err(_) => u8::MAX,
-    }
-}
-
-// What one hexadecimal digit stands for; anything else is taken for 0.
-fn nibble(c: u8) -> u8 {
+// What one hexadecimal digit stands for; anything else is taken for 0, capital letters too, which `to_digit` would read.
+fn nibble(c: u8) -> u8
+    ensures { result < 16 }
+{
     match c {
         b'0'..=b'9' => c - b'0',
         b'a'..=b'f' => c - b'a' + 10,
@@ -29,28 +38,33 @@ fn nibble(c: u8) -> u8 {
 
 // The bytes that a word writes; a lone dash writes none.
 pub(crate) fn bytes_of(heap: Global, word: &str) -> Result<Vec<u8>, AllocError> {
-    let mut bytes = Vec::new(heap);
-    for pair in word.as_bytes().chunks(2) {
-        if let [high, low] = pair {
-            bytes.push((nibble(*high) % 16) * 16 + nibble(*low) % 16)?;
-        }
-    }
-    Ok(bytes)
+    let (pairs, _) = word.as_bytes().as_chunks::<2>();
+    pairs
+        .iter()
+        .map(|[high, low]| nibble(*high) * 16 + nibble(*low))
+        .collect(heap)
 }
 
 // A row of digits, with a space before each.
-pub(crate) fn spaced(heap: Global, row: &[u8]) -> Result<String, AllocError> {
-    let mut text = String::new(heap);
-    for d in row {
-        let one = format!(in heap; " {d}")?;
-        text.push_str(one.as_str())?;
+#[derive(Clone, Copy)]
+pub(crate) struct Spaced<'a>(pub(crate) &'a [u8]);
+
+impl fmt::Display for Spaced<'_> {
+    fn fmt<W: fmt::Write>(&self, f: &mut fmt::Formatter<W>) -> fmt::Result {
+        for digit in self.0 {
+            write!(f, " {digit}")?;
+        }
+        Ok(())
     }
-    Ok(text)
 }
 
 // A refusal, with its layer.
-pub(crate) fn refusal(heap: Global, fault: &Fault) -> Result<String, AllocError> {
-    let layer = fault.layer;
-    let cause = fault.cause;
-    format!(in heap; "refused {cause} {layer}")
+#[derive(Clone, Copy)]
+pub(crate) struct Refusal(pub(crate) Fault);
+
+impl fmt::Display for Refusal {
+    fn fmt<W: fmt::Write>(&self, f: &mut fmt::Formatter<W>) -> fmt::Result {
+        let Fault { layer, cause } = self.0;
+        write!(f, "refused {cause} {layer}")
+    }
 }
