@@ -25,7 +25,7 @@ pub(crate) fn number<N: Bounded>(word: &str) -> N {
     word.parse().unwrap_or(N::MAX)
 }
 
-// What one hexadecimal digit stands for; anything else is taken for 0, capital letters too, which `to_digit` would read.
+// What one hexadecimal digit stands for; anything else is taken for 0. (The library's `to_digit` reads capitals too.)
 fn nibble(c: u8) -> u8
     ensures { result < 16 }
 {
