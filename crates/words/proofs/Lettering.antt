@@ -1,6 +1,6 @@
 -- A position's letters: its digits in base q, written from the last place to the first.
-use Rattle.std.proofs.Common.{◌≡◌, ℕ, suc, ◌-◌, ◌/◌, ◌%◌, ◌^◌, ◌<◌, ◌≤◌, List, length, set, sym, ap, ◌∙◌, inl, inr, pow-suc, div-one, arith}
-use Rattle.std.proofs.Math.Nat.{pow-zero, div-div-eq-div-mul}
+use Rattle.std.proofs.Common.{◌≡◌, ℕ, suc, ◌-◌, ◌/◌, ◌%◌, ◌^◌, ◌<◌, ◌≤◌, List, length, set, sym, ap, ◌∙◌, inl, inr, pow-suc, arith}
+use Rattle.std.proofs.Math.Nat.{div-div-eq-div-mul}
 use Rattle.std.proofs.lemmas.List.FromFn.{fill_by_all}
 use Rattle.std.proofs.lemmas.List.{get_or-set_same, get_or-set_other}
 use Rattle.std.proofs.lemmas.Bool.{cases_eq}
@@ -12,12 +12,6 @@ use Rattle.words.specs.Words.{letter}
 pub record Written (h q t p : ℕ) (word : List ℕ) (rest : ℕ) : Type 0 where
   pub is_rest : rest ≡ t / q ^ (h - p)
   pub letters : (k : ℕ) → p ≤ k → k < h → at word k ≡ letter h q t k
-
-pub written_none : (h q t : ℕ) (word : List ℕ) → Written h q t h word t
-written_none h q t word = record {
-  is_rest = sym (ap (λ n. t / q ^ n) {x = h - h} {y = 0} (omega arith) ∙ ap (λ n. t / n) (pow-zero q) ∙ div-one t);
-  letters = λ k a b. absurd (omega arith);
-}
 
 pub written_more : (h q t p : ℕ) (word : List ℕ) (rest : ℕ) → 0 < p → p ≤ h → length word ≡ h → Written h q t p word rest →
     Written h q t (p - 1) (set word (p - 1) (rest % q)) (rest / q)

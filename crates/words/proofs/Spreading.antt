@@ -1,5 +1,5 @@
 -- Spreading over a position's own coordinates.
-use Rattle.std.proofs.Common.{◌≡◌, ℕ, ◌+◌, ◌*◌, ◌%◌, ◌<◌, ◌≤◌, List, length, get_or, set, sym, refl, ap, subst, inl, inr, mul-one, arith}
+use Rattle.std.proofs.Common.{◌≡◌, ℕ, ◌+◌, ◌*◌, ◌%◌, ◌<◌, ◌≤◌, List, length, get_or, set, sym, refl, ap, ◌∙◌, subst, inl, inr, mul-one, arith}
 use Rattle.std.proofs.lemmas.List.{get_or_default, get_or_past}
 use Rattle.std.proofs.lemmas.Bool.{cases_lt, cases_order}
 use Rattle.digits.specs.Rows.{at}
@@ -60,12 +60,12 @@ module _ (h q t : ℕ) (pos : 0 < q) (own : List ℕ) (is : own ≡ own_or_none 
         | inr m ↦ omega (arith, get_or_past own (k + 1) (word_dim h q) m, own_lt h q t pos own is k b)
       ]
 
-  pub spread_more : (k : ℕ) (ys : List ℕ) → k < length own → length ys ≡ length xs → Passed (word_digit h q (λ s. 1) t) amount e (next k) xs ys →
-      Passed (word_digit h q (λ s. 1) t) amount e (next (k + 1)) xs (set ys (6 * at own k + e % 6) ((at ys (6 * at own k + e % 6) + amount) % 6))
-  spread_more k ys b long passed =
+  pub spread_more : (k a : ℕ) (ys : List ℕ) → k < length own → a ≡ amount → length ys ≡ length xs → Passed (word_digit h q (λ s. 1) t) amount e (next k) xs ys →
+      Passed (word_digit h q (λ s. 1) t) amount e (next (k + 1)) xs (set ys (6 * at own k + e % 6) ((at ys (6 * at own k + e % 6) + a) % 6))
+  spread_more k a ys b whole long passed =
       skips_to (word_digit h q (λ s. 1) t) amount e (at own k + 1) (next (k + 1)) xs _ (after k b) (λ i a m. gap k i b (omega arith) m)
       (subst (λ a. Passed (word_digit h q (λ s. 1) t) amount e (at own k + 1) xs (set ys (6 * at own k + e % 6) ((at ys (6 * at own k + e % 6) + a) % 6)))
-      (mul-one amount)
+      (mul-one amount ∙ sym whole)
       (adds (word_digit h q (λ s. 1) t) amount e (at own k) xs ys (subst (λ c. Passed (word_digit h q (λ s. 1) t) amount e c xs ys) (next_at k b) passed)
       (6 * at own k + e % 6) 1 long refl (sym (u_found h q t pos own is (at own k) k b refl)) (omega arith)))
 

@@ -8,7 +8,7 @@ use Rattle.digits.proofs.Sums.{product_zero}
 use Rattle.words.specs.Own.{own_coordinates, own_or_none}
 use Rattle.words.specs.Places.{place_sets}
 use Rattle.words.specs.Words.{letter, word_dim, word_digit}
-use Rattle.words.specs.Limits.{width_sets, dim_narrow, sets_few}
+use Rattle.words.specs.Limits.{width_sets, dim_narrow}
 use Rattle.words.specs.Matching.{digit_at, digit_past, own_product}
 use Rattle.words.proofs.OwnCoordinates.{length_own, own_most, own_rising, own_found, own_missing}
 use Rattle.words.specs.Readings.{letter_lt}
@@ -30,13 +30,6 @@ module _ (h q t : ℕ) (pos : 0 < q) (own : List ℕ) (is : own ≡ own_or_none 
 
   own_at : t < q ^ h → (k : ℕ) → at own k ≡ at (own_coordinates h q t) k
   own_at l k = ap (λ xs. at xs k) (own_there l)
-
-  pub own_few : h ≤ 5 → length own ≤ 16
-  own_few short =
-      elim (cases_lt t (q ^ h)) [
-        | inl l ↦ omega (arith, own_length l, sets_few h short)
-        | inr l ↦ omega (arith, ap length (own_past l))
-      ]
 
   pub own_lt : (k : ℕ) → k < length own → at own k < word_dim h q
   own_lt k b =
