@@ -1,5 +1,5 @@
 // A position's own coordinates: those where its vectors are not 0.
-ghost use Rattle.std.specs.Prelude.{◌≡◌, length};
+ghost use Rattle.std.specs.Prelude.{◌≡◌};
 ghost use Rattle.digits.specs.Rows.{row};
 ghost use Rattle.words.specs.Own.{own_or_none};
 ghost use Rattle.words.specs.Words.{letter};

@@ -12,5 +12,5 @@ returns c =
     (YieldsList-from_map _ (at c.args.row.now) (YieldsList-from_slice c.deref.result.now (cc)) c.map.ensures.closure (λ x r q k. search (rules, tests))) in
     ap (λ a. a % 6) total
     ∙ sym
-    (u-product c.args.self.now.letters c.args.self.now.alphabet c.args.i (let some = c.args.self.now.choice in omega arith) _ (c.deref.ensures.0 ∙ c.own.ensures)
+    (u-product c.args.self.now.letters c.args.self.now.alphabet c.args.i (omega (arith, c.args.self.now.choice)) _ (c.deref.ensures.0 ∙ c.own.ensures)
     (at c.args.row.now))
