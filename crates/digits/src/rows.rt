@@ -66,7 +66,7 @@ pub fn check_row(row: &[u8], len: usize) -> Result<(), Fault>
 pub fn add_at(row: &mut [u8], place: usize, amount: u32)
     ensures { row.new ≡ slice_set row.old place ((at row.old place + amount) % 6) }
 {
-    // not by `get_mut`: the proof did not close, as nothing was told of the row where the place is past its end
+    // by index: after `get_mut` a proof knows no byte of the row, so it did not close
     if place < row.len() {
         row[place] = ((u64::from(row[place]) + u64::from(amount)) % 6) as u8;
     }

@@ -14,6 +14,7 @@ pub fn draw(bytes: &[u8], tape: &mut [u8]) -> Result<(), Fault>
         (λ f. (long_fault (length tape.old) bytes.now ≡ Some f) × (tape.new ≡ tape.old)) }
 {
     check_length(bytes, tape.len())?;
+    // copied first: of what is written through `iter_mut` zipped with the bytes a proof would know nothing
     tape.copy_from_slice(bytes);
     for digit in tape.iter_mut() {
         *digit %= 6;

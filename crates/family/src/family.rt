@@ -47,7 +47,7 @@ pub trait Family {
     fn spread(&self, i: usize, amount: u8, e: usize, elements: &mut [u8])
         ensures { elements.new ≡ spread ((vectors self.now).u i) amount e elements.old }
     {
-        // a family tells one digit at a time, so there is no row of u to go along
+        // by coordinate, not along `elements.chunks_mut(6)`: after that a proof knows no byte of the row
         for c in 0..self.dimension() {
             let d = self.u(i, c);
             if d != 0 {

@@ -41,15 +41,11 @@ impl Family for UnitFamily {
     }
 
     fn u(&self, i: usize, c: usize) -> u8 {
-        if i < self.count && i == c { 1 } else { 0 }
+        u8::from(i < self.count && i == c)
     }
 
     fn v(&self, i: usize, c: usize) -> u8 {
-        if i < self.count && c < self.count && i != c {
-            1
-        } else {
-            0
-        }
+        u8::from(i < self.count && c < self.count && i != c)
     }
 
     // Only coordinate i of u(i) is not 0.

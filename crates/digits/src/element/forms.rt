@@ -5,7 +5,7 @@ ghost use Rattle.digits.specs.Refusals.{long_fault, row_fault};
 ghost use Rattle.digits.specs.Rows.{at};
 
 use crate::element::Element;
-use crate::rows::{check_digits, check_length};
+use crate::rows::{check_length, check_row};
 use faults::Fault;
 
 impl Element {
@@ -42,10 +42,10 @@ impl TryFrom<&[u8]> for Element {
     ghost try_from_gives = { λ row result. MatchResult result (λ e. (row_fault 6 row.now ≡ None) × (e.digits ≡ row.now)) (λ f. row_fault 6 row.now ≡ Some f) };
 
     fn try_from(row: &[u8]) -> Result<Element, Fault> {
-        let Some(digits) = row.as_array() else {
-            return Err(Fault::length(row.len()));
-        };
-        check_digits(row)?;
-        Ok(Element { digits: *digits })
+        check_row(row, 6)?;
+        Ok(Element {
+            // six bytes, as the check has seen
+            digits: *row.as_array().unwrap(),
+        })
     }
 }
