@@ -1,3 +1,4 @@
+pub mod Advanced
 pub mod Numbers
 pub mod Layout
 pub mod BookVectors

@@ -1,5 +1,5 @@
 // A book read front to back, part by part.
-ghost use Rattle.std.specs.Prelude.{◌≡◌, ◌*◌, ◌≤◌, length, take, drop, IfOk, OnOk};
+ghost use Rattle.std.specs.Prelude.{◌≡◌, ◌*◌, ◌≤◌, length, take, IfOk, OnOk};
 ghost use Rattle.std.specs.Result.{result_err};
 ghost use Rattle.books.specs.Numbers.{big_endian};
 ghost use Rattle.books.specs.Layout.{short_fault, limited_fault, second_fault, section_fault, end_fault, sections_fault};
@@ -7,9 +7,10 @@ ghost use Rattle.books.specs.Layout.{short_fault, limited_fault, second_fault, s
 use digits::{check_limits, first_above};
 use faults::{Fault, Layer};
 
-// How many bytes the dimension has, and how many each count.
+// How many bytes the dimension has.
 pub(crate) const DIMENSION_LEN: usize = 2;
 
+// How many bytes each of the two counts has.
 pub(crate) const COUNT_LEN: usize = 4;
 
 // What is left of a book, and the length of the whole book, which refusals name. After a refusal it is open what is left.
@@ -21,6 +22,8 @@ pub(crate) struct Reader<'a> {
 }
 
 impl<'a> Reader<'a> {
+    ghost use Rattle.books.specs.Advanced.{Advanced};
+
     pub(crate) fn new(bytes: &'a [u8]) -> Reader<'a>
         ensures whole { result.whole ≡ length bytes.now }
         ensures rest { result.rest.now ≡ bytes.now }
@@ -31,29 +34,29 @@ impl<'a> Reader<'a> {
         }
     }
 
-    // So many bytes.
+    // Takes so many bytes off the front of what is left.
     fn take(&mut self, len: usize) -> Result<&'a [u8], Fault>
         ensures fault { result_err result ≡ short_fault len self.old.whole self.old.rest.now }
         ensures part { IfOk result (λ part. part.now ≡ take len self.old.rest.now) }
         ensures length { IfOk result (λ part. length part.now ≡ len) }
-        ensures left { OnOk result (self.new.rest.now ≡ drop len self.old.rest.now) }
-        ensures whole { self.new.whole ≡ self.old.whole }
+        ensures left { OnOk result (Advanced len self.old self.new) }
     {
-        let Some((part, rest)) = self.rest.split_at_checked(len) else {
-            return Err(Fault::length(self.whole));
-        };
+        let (part, rest) = self
+            .rest
+            .split_at_checked(len)
+            .ok_or(Fault::length(self.whole))?;
         self.rest = rest;
         Ok(part)
     }
 
-    // A number of so many bytes, the most significant first.
+    // Takes a number of so many bytes, the most significant first. One loop serves both lengths; `from_be_bytes` is there for
+    // each apart.
     #[tactic(auto, using(crate::proofs::Writing::writing))]
     fn number(&mut self, len: usize) -> Result<usize, Fault>
         requires { len ≤ 4 }
         ensures fault { result_err result ≡ short_fault len self.old.whole self.old.rest.now }
         ensures value { IfOk result (λ n. n ≡ big_endian len self.old.rest.now) }
-        ensures left { OnOk result (self.new.rest.now ≡ drop len self.old.rest.now) }
-        ensures whole { self.new.whole ≡ self.old.whole }
+        ensures left { OnOk result (Advanced len self.old self.new) }
     {
         let mut number = 0;
         for byte in self.take(len)? {
@@ -62,24 +65,22 @@ impl<'a> Reader<'a> {
         Ok(number)
     }
 
-    // A number of so many bytes, from 1 to the most that a book may have there.
+    // Takes a number of so many bytes, from 1 to the most that a book may have there.
     pub(crate) fn limited_number(&mut self, len: usize, most: usize) -> Result<usize, Fault>
         requires { len ≤ 4 }
         ensures fault { result_err result ≡ limited_fault len most self.old.whole self.old.rest.now }
         ensures value { IfOk result (λ n. n ≡ big_endian len self.old.rest.now) }
-        ensures left { OnOk result (self.new.rest.now ≡ drop len self.old.rest.now) }
-        ensures whole { self.new.whole ≡ self.old.whole }
+        ensures left { OnOk result (Advanced len self.old self.new) }
     {
         let number = self.number(len)?;
         check_limits(Layer::Family, 1, most, number)?;
         Ok(number)
     }
 
-    // So many digits. The first byte above 5 is refused with its place in the whole book.
+    // Takes so many digits. The first byte above 5 is refused with its place in the whole book.
     fn digits(&mut self, len: usize) -> Result<(), Fault>
         ensures fault { result_err result ≡ section_fault len self.old.whole self.old.rest.now }
-        ensures left { OnOk result (self.new.rest.now ≡ drop len self.old.rest.now) }
-        ensures whole { self.new.whole ≡ self.old.whole }
+        ensures left { OnOk result (Advanced len self.old self.new) }
     {
         let start = self.whole - self.rest.len();
         match first_above(self.take(len)?) {
@@ -88,11 +89,10 @@ impl<'a> Reader<'a> {
         }
     }
 
-    // The second count, which has to be the first.
+    // Takes the second count, which has to be the first.
     fn second_count(&mut self, first: usize) -> Result<(), Fault>
         ensures fault { result_err result ≡ second_fault first self.old.whole self.old.rest.now }
-        ensures left { OnOk result (self.new.rest.now ≡ drop 4 self.old.rest.now) }
-        ensures whole { self.new.whole ≡ self.old.whole }
+        ensures left { OnOk result (Advanced 4 self.old self.new) }
     {
         let second = self.number(COUNT_LEN)?;
         if second == first {
@@ -113,7 +113,7 @@ impl<'a> Reader<'a> {
         }
     }
 
-    // What stands behind the first count: digits, a count and digits again, and no more.
+    // Takes what stands behind the first count: digits, a count and digits again, and no more.
     #[tactic(auto, using(crate::proofs::Sections::second_section))]
     pub(crate) fn sections(&mut self, count: usize, dimension: usize) -> Result<(), Fault>
         requires count_bound { count ≤ 1024 }

@@ -11,12 +11,13 @@ use crate::reader::{COUNT_LEN, DIMENSION_LEN, Reader};
 use crate::rows::Rows;
 use faults::Fault;
 
-// The limits of a book; each is at least 1.
+// The highest dimension of a book.
 const MOST_COORDINATES: usize = 4096;
 
+// The highest count of a book.
 const MOST_POSITIONS: usize = 1024;
 
-// What an examination has found when it ends.
+// What an examination has found when it ends: each part for itself, as programs print them.
 #[derive(Clone, Copy)]
 pub struct Report {
     // the dimension, once it is read and within its limits

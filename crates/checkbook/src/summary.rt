@@ -64,7 +64,7 @@ mod tests {
     use faults::Layer;
     use std::test::Fail;
 
-    // The stored output is that of a book in order, and no clause says that the text of another can be written.
+    // The program's stored output is of an accepted book; this is the text of a refused one, with two parts not found.
     #[test]
     fn refused_book_is_told(rt: HostRuntime) -> Result<(), Fail> {
         let report = Report {

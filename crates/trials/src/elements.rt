@@ -12,6 +12,7 @@ struct Shown(Element);
 
 impl fmt::Display for Shown {
     fn fmt<W: fmt::Write>(&self, f: &mut fmt::Formatter<W>) -> fmt::Result {
+        // 9 is no digit, so a place that was not written would show
         let mut row = [9u8; 6];
         self.0.write(&mut row).unwrap();
         write!(f, "{}", Spaced(&row))

@@ -25,7 +25,8 @@ pub(crate) fn number<N: Bounded>(word: &str) -> N {
     word.parse().unwrap_or(N::MAX)
 }
 
-// What one hexadecimal digit stands for; anything else is taken for 0. (The library's `to_digit` reads capitals too.)
+// What one hexadecimal digit stands for. By hand, since all else counts as 0 in a trial, capital letters too, which the
+// library's `to_digit` would read.
 fn nibble(c: u8) -> u8
     ensures { result < 16 }
 {
@@ -36,7 +37,7 @@ fn nibble(c: u8) -> u8
     }
 }
 
-// The bytes that a word writes; a lone dash writes none.
+// The bytes that a word writes, two letters each; a letter without a second writes none, and so does a lone dash.
 pub(crate) fn bytes_of(heap: Global, word: &str) -> Result<Vec<u8>, AllocError> {
     let (pairs, _) = word.as_bytes().as_chunks::<2>();
     pairs

@@ -9,7 +9,7 @@ use arrayvec::ArrayVec;
 
 impl Words {
     // The letters of a position, which are its digits in base q, the most significant first, in a buffer that the caller
-    // lends. An `ArrayVec` that is pushed to and reversed in the end made products a tenth slower.
+    // lends: an `ArrayVec`, pushed to and then reversed, makes products over all words a tenth slower than they were before.
     fn spell<'a>(&self, t: usize, buffer: &'a mut [usize; 5]) -> &'a [usize]
         ensures { result.now ≡ row self.now.letters (letter self.now.letters self.now.alphabet t) }
     {
