@@ -74,20 +74,6 @@ impl Report {
             }
         }
     }
-
-    // Reads the layout and then tries the pairs.
-    fn fill(&mut self, bytes: &[u8]) -> Result<(), Fault>
-        requires dimension_open { self.old.dimension ≡ None }
-        requires positions_open { self.old.positions ≡ None }
-        requires pairs_open { self.old.pairs ≡ None }
-        ensures dimension { self.new.dimension ≡ told_dimension bytes.now }
-        ensures positions { self.new.positions ≡ told_count bytes.now }
-        ensures pairs { self.new.pairs ≡ told_pairs bytes.now }
-        ensures fault { result_err result ≡ book_fault bytes.now }
-    {
-        let rows = self.read_layout(bytes)?;
-        self.try_pairs(&rows)
-    }
 }
 
 // Examines a book front to back: its layout first, then its pairs.
@@ -103,6 +89,10 @@ pub fn examine(bytes: &[u8]) -> Report
         pairs: None,
         verdict: Ok(()),
     };
-    report.verdict = report.fill(bytes);
+    // not by `and_then`: its closure would change the report, and a proof would know nothing of what it then holds
+    report.verdict = match report.read_layout(bytes) {
+        Ok(rows) => report.try_pairs(&rows),
+        Err(fault) => Err(fault),
+    };
     report
 }
