@@ -1,29 +1,20 @@
 -- The products of a book's rows, and whether they are allowed.
-use Rattle.std.specs.Prelude.{◌≡◌, ℕ, ◌+◌, ◌*◌, cond, List, length, nat_lt, refl}
-use Rattle.std.proofs.Common.{inl, inr, sym, ap, ◌∙◌, arith}
-use Rattle.std.proofs.lemmas.Bool.{cases_lt, lt-ltb, le-ltb, cond-true, cond-false}
+use Rattle.std.specs.Prelude.{◌≡◌, ℕ, cond, List, length, nat_lt, refl}
+use Rattle.std.proofs.Common.{ap}
 use Rattle.digits.specs.Rows.{at}
 use Rattle.digits.specs.Sums.{product}
-use Rattle.digits.proofs.Sums.{product_cong, product_none, product_zero}
+use Rattle.digits.proofs.Sums.{product_cong}
 use Rattle.family.specs.Vectors.{allowed}
-use Rattle.family.specs.Within.{within_past_count}
 use Rattle.books.specs.BookVectors.{book_vectors}
 use Rattle.books.specs.Numbers.{dimension_of, count_of}
 use Rattle.books.specs.Pairs.{fits}
+use Rattle.books.specs.Telling.{vector_product}
 
 -- a row that holds u(i), or is empty past the last position, has the products of u(i)
 pub u_times : (bs : List ℕ) (n k i : ℕ) (x y : List ℕ) → n ≡ count_of bs → k ≡ dimension_of bs →
     ((c : ℕ) → at x c ≡ (book_vectors bs).u i c) → length x ≡ cond (nat_lt i n) k 0 →
     product (length x) (at x) (at y) ≡ product (dimension_of bs) ((book_vectors bs).u i) (at y)
-u_times bs n k i x y counted wide digits long =
-    elim (cases_lt i n) [
-      | inl h ↦
-          ap (λ m. product m (at x) (at y)) (long ∙ cond-true _ _ _ (lt-ltb i n h) ∙ wide)
-          ∙ product_cong (dimension_of bs) (at x) (at y) ((book_vectors bs).u i) (at y) (λ c l. digits c) (λ c l. refl)
-      | inr past ↦
-          ap (λ m. product m (at x) (at y)) (long ∙ cond-false _ _ _ (le-ltb i n past)) ∙ product_none (at x) (at y)
-          ∙ sym (product_zero (dimension_of bs) ((book_vectors bs).u i) (at y) (λ c l. within_past_count (count_of bs) (dimension_of bs) (λ m d. at bs (6 + m * dimension_of bs + d)) i c (omega arith)))
-    ]
+u_times bs n k i x y counted wide digits long = vector_product bs 6 n k i counted wide x digits long (at y)
 
 -- a row that has v(j)'s digits tells whether i and j fit
 pub fits_is : (bs : List ℕ) (i j : ℕ) (y : List ℕ) → ((c : ℕ) → at y c ≡ (book_vectors bs).v j c) →

@@ -1,10 +1,10 @@
 -- The room that the rows of a book in order need.
-use Rattle.std.proofs.Common.{◌≡◌, ℕ, ◌+◌, ◌*◌, ◌≤◌, false, List, length, is_some, sym, ap₂, ◌∙◌, arith}
+use Rattle.std.proofs.Common.{◌≡◌, ℕ, ◌+◌, ◌*◌, ◌≤◌, false, List, length, is_some, arith}
 use Rattle.std.proofs.lemmas.Nat.{mul-le}
 use Rattle.books.specs.Accepting.{none_of}
 use Rattle.books.specs.Layout.{layout_fault}
 use Rattle.books.specs.Numbers.{dimension_of, count_of}
-use Rattle.books.specs.Ordered.{in_order}
+use Rattle.books.specs.Ordered.{in_order, long_as}
 
 -- the length of a book in order, its count, and the size of a section, by the numbers that the code holds
 pub record Room (bs : List ℕ) (n k : ℕ) : Type 0 where
@@ -16,7 +16,7 @@ pub room : (bs : List ℕ) (n k : ℕ) → is_some (layout_fault bs) ≡ false �
 room bs n k order counted wide =
     let o = in_order bs (none_of (layout_fault bs) order) in
     record {
-      long = o.long ∙ ap₂ (λ a b. 10 + a * b + a * b) (sym counted) (sym wide);
+      long = long_as bs n k o counted wide;
       few = omega arith;
       bounded = mul-le n k 1024 4096 (omega arith) (omega arith);
     }

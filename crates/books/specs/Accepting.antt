@@ -1,5 +1,5 @@
 -- A book is accepted exactly where its layout is in order and its vectors are a matching family.
-use Rattle.std.specs.Prelude.{◌≡◌, ℕ, false, List, is_some, Some, None, Option, refl}
+use Rattle.std.specs.Prelude.{◌≡◌, ℕ, false, List, length, drop, is_some, Some, None, Option, refl}
 use Rattle.std.proofs.Common.{sym, ap₂, ◌∙◌, arith}
 use Rattle.std.proofs.Math.Path.{ap}
 use Rattle.std.specs.Option.{option_map}
@@ -9,8 +9,9 @@ use Rattle.faults.specs.Faults.{unmatched_fault}
 use Rattle.digits.proofs.Passing.{some≢none, goes_on, or_else_none, none_or_else}
 use Rattle.family.specs.Vectors.{Matches}
 use Rattle.books.specs.BookVectors.{book_vectors}
-use Rattle.books.specs.Books.{book_fault}
-use Rattle.books.specs.Layout.{layout_fault}
+use Rattle.books.specs.Books.{book_fault, told, told_dimension, told_count}
+use Rattle.books.specs.Layout.{dimension_fault, count_fault, layout_fault}
+use Rattle.books.specs.Numbers.{dimension_of, count_of}
 use Rattle.books.specs.Pairs.{FirstUnmatched, bad_pair, pairs_fault}
 use Rattle.books.specs.Matching.{first_unmatched, matches_if_none, none_if_matches}
 
@@ -51,3 +52,14 @@ module _ (bs : List ℕ) where
   first_fault layout i j e =
       first_unmatched (book_vectors bs) i j
       (named_pair (bad_pair (book_vectors bs)) i j (sym (goes_on (layout_fault bs) (pairs_fault (book_vectors bs)) _ layout refl) ∙ e))
+
+  -- an accepted book tells its dimension and its count
+  pub told_both : book_fault bs ≡ None → (told_dimension bs ≡ Some (dimension_of bs)) × (told_count bs ≡ Some (count_of bs))
+  unfolding layout_fault
+  told_both e =
+      let layout = (or_else_none (layout_fault bs) (pairs_fault (book_vectors bs)) e).0 in
+      let one = or_else_none (dimension_fault bs) _ layout in
+      let two = or_else_none (count_fault (length bs) (drop 2 bs)) _ one.1 in (
+        ap (λ o. told o (dimension_of bs)) one.0,
+        ap (λ o. told o (count_of bs)) (none_or_else (dimension_fault bs) (count_fault (length bs) (drop 2 bs)) one.0 two.0),
+      )

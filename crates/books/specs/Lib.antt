@@ -10,3 +10,5 @@ pub mod Firsts
 pub mod Telling
 pub mod Ordered
 pub mod Reading
+pub mod Parts
+pub mod Places

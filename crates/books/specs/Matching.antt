@@ -4,7 +4,7 @@ use Rattle.std.proofs.Math.Logic.{inl, inr}
 use Rattle.std.proofs.Math.Path.{sym, ap, subst}
 use Rattle.std.proofs.Common.{◌∙◌}
 use native.Mathlib.Omega.{arith}
-use Rattle.std.proofs.lemmas.Bool.{cases_cond, cond-true, eq-eqb, eqb-true, eqb-false, both_ways}
+use Rattle.std.proofs.lemmas.Bool.{cases_cond, cond-true, cond-false, eq-eqb, ne_eqb, eqb-true, eqb-false, both_ways}
 use Rattle.family.specs.Vectors.{Vectors, Matches, pairing}
 use Rattle.family.proofs.Allowing.{allowed_from, allowed_passes}
 use Rattle.books.specs.Pairs.{fits, Keeps, FirstUnmatched, bad_partner, bad_position, bad_pair}
@@ -86,3 +86,20 @@ module _ (f : Vectors) where
 
 pub bad_pair_below : (f : Vectors) (i j : ℕ) → Some (i, j) ≡ bad_pair f → (i < f.count) × (j < f.count)
 bad_pair_below f i j e = (first_unmatched f i j (sym e)).below
+
+-- where each position before i fits with all, i decides
+module _ (f : Vectors) (i : ℕ) (before : (k : ℕ) → k < i → (bad_partner f k == f.count) ≡ true) where
+  pub bad_pair-at : (j : ℕ) → i < f.count → j ≡ bad_partner f i → (j ≢ f.count) → Some (i, j) ≡ bad_pair f
+  unfolding bad_position
+  bad_pair-at j h is ne =
+      let bad = ne_eqb (bad_partner f i) f.count (λ e. ne (is ∙ e)) in
+      let there : bad_position f ≡ i = first_is (λ k. nat_eq (bad_partner f k) f.count) f.count i (omega arith) before (λ l. bad) in
+      ap (λ y. Some (i, y)) is
+      ∙ sym (ap (λ x. Some (x, bad_partner f x)) there)
+      ∙ sym (cond-false _ _ _ (ne_eqb (bad_position f) f.count (omega arith)))
+
+  pub no_bad_pair : i ≡ f.count → None ≡ bad_pair f
+  unfolding bad_position
+  no_bad_pair e =
+      let there = first_is (λ k. nat_eq (bad_partner f k) f.count) f.count i (omega arith) before (λ l. absurd (omega arith)) in
+      sym (cond-true _ _ _ (eq-eqb (bad_position f) f.count (there ∙ e)))

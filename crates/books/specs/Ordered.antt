@@ -1,8 +1,8 @@
 -- What a book's layout in order tells: limits, length and digits.
-use Rattle.std.specs.Prelude.{◌≡◌, ℕ, ◌+◌, ◌≤◌, List, length, take, drop, None, Option}
-use Rattle.std.proofs.Common.{sym, ap, subst, ◌∙◌, arith}
+use Rattle.std.specs.Prelude.{◌≡◌, ℕ, ◌+◌, ◌*◌, ◌≤◌, List, length, take, drop, None, Option}
+use Rattle.std.proofs.Common.{sym, ap, ap₂, subst, ◌∙◌, arith}
 use Rattle.std.proofs.lemmas.List.{length-drop, length-take-le, drop-drop}
-use Rattle.std.proofs.lemmas.Bool.{eqb-true, ltb-false}
+use Rattle.std.proofs.lemmas.Bool.{eqb-true}
 use Rattle.faults.specs.declared.Layer.TheVariants.{Family}
 use Rattle.faults.specs.declared.Fault.{Fault}
 use Rattle.digits.specs.Refusals.{or_else, limit_fault}
@@ -11,7 +11,8 @@ use Rattle.digits.proofs.Passing.{or_else_none}
 use Rattle.digits.proofs.RowLaws.{above_none, limit_fit}
 use Rattle.books.specs.Layout.{short_fault, dimension_fault, count_fault, second_fault, section_fault, layout_fault}
 use Rattle.books.specs.Numbers.{dimension_of, count_of, size_of, second_of}
-use Rattle.digits.proofs.Passing.{passed, failed}
+use Rattle.digits.proofs.Passing.{passed}
+use Rattle.books.specs.Parts.{enough}
 
 pub record InOrder (bs : List ℕ) : Type 0 where
   pub wide : 1 ≤ dimension_of bs
@@ -21,9 +22,6 @@ pub record InOrder (bs : List ℕ) : Type 0 where
   pub long : length bs ≡ second_of bs + size_of bs
   pub u_digits : Digits (take (size_of bs) (drop 6 bs))
   pub v_digits : Digits (take (size_of bs) (drop (second_of bs) bs))
-
-enough : (len whole : ℕ) (rest : List ℕ) → short_fault len whole rest ≡ None → len ≤ length rest
-enough len whole rest e = ltb-false _ _ (failed _ _ e)
 
 section_digits : (len whole : ℕ) (rest : List ℕ) → section_fault len whole rest ≡ None → (len ≤ length rest) × Digits (take len rest)
 section_digits len whole rest e =
@@ -57,3 +55,7 @@ in_order bs e =
       u_digits = (section_digits (size_of bs) (length bs) (drop 6 bs) three.0).1;
       v_digits = subst (λ r. Digits (take (size_of bs) r)) there v.1;
     }
+
+-- the length by the numbers that the code holds
+pub long_as : (bs : List ℕ) (n k : ℕ) → InOrder bs → n ≡ count_of bs → k ≡ dimension_of bs → length bs ≡ 10 + n * k + n * k
+long_as bs n k order counted wide = order.long ∙ ap₂ (λ a b. 10 + a * b + a * b) (sym counted) (sym wide)
