@@ -17,5 +17,5 @@ same_six e f he hf =
     ∙ ap (λ last. nat_eq (at e 0) (at f 0) && (nat_eq (at e 1) (at f 1) && (nat_eq (at e 2) (at f 2) && (nat_eq (at e 3) (at f 3) && (nat_eq (at e 4) (at f 4) && last)))))
     (and_true (nat_eq (at e 5) (at f 5)))
 
-pub derived_eq : (e f : Element) → length e.digits ≡ 6 → length f.digits ≡ 6 → (derived.ghosts).eq e f ≡ same_element e.digits f.digits
-derived_eq e f he hf = same_six e.digits f.digits he hf
+pub derived_eq : (e f : Element) → (derived.ghosts).eq e f ≡ same_element e.digits f.digits
+derived_eq e f = same_six e.digits f.digits e.six f.six

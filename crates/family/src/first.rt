@@ -11,11 +11,10 @@ use faults::{Fault, Layer};
 
 // The first positions of a family, with the same dimension.
 #[derive(Drop)]
-pub struct FirstPart<F: Family> {
+pub struct FirstPart<F> {
     family: F,
     count: usize,
     ghost some: { 1 ≤ count },
-    ghost within: { count ≤ (F.Family.vectors family).count },
 }
 
 impl<F: Family> FirstPart<F> {
@@ -38,7 +37,7 @@ impl<F: Family> Family for FirstPart<F> {
     ghost matching = { λ f. first_family f.count (F.Family.vectors f.family) f.some (F.Family.matching f.family) };
 
     fn count(&self) -> usize {
-        self.count
+        self.count.min(self.family.count())
     }
 
     fn dimension(&self) -> usize {
