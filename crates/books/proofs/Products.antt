@@ -17,7 +17,7 @@ pub u_times : (bs : List ℕ) (n k i : ℕ) (x y : List ℕ) → n ≡ count_of 
 u_times bs n k i x y counted wide digits long = vector_product bs 6 n k i counted wide x digits long (at y)
 
 -- a row that has v(j)'s digits tells whether i and j fit
-pub fits_is : (bs : List ℕ) (i j : ℕ) (y : List ℕ) → ((c : ℕ) → at y c ≡ (book_vectors bs).v j c) →
+pub fits_by_row : (bs : List ℕ) (i j : ℕ) (y : List ℕ) → ((c : ℕ) → at y c ≡ (book_vectors bs).v j c) →
     allowed i j (product (dimension_of bs) ((book_vectors bs).u i) (at y)) ≡ fits (book_vectors bs) i j
-fits_is bs i j y there =
+fits_by_row bs i j y there =
     ap (allowed i j) (product_cong (dimension_of bs) ((book_vectors bs).u i) (at y) ((book_vectors bs).u i) ((book_vectors bs).v j) (λ c l. refl) (λ c l. there c))

@@ -89,7 +89,8 @@ pub fn examine(bytes: &[u8]) -> Report
         pairs: None,
         verdict: Ok(()),
     };
-    // not by `and_then`: its closure would change the report, and a proof would know nothing of what it then holds
+    // by a `match`: `?` would want one more method with these four clauses, and after an `and_then` whose closure changes the
+    // report a proof knows nothing of it
     report.verdict = match report.read_layout(bytes) {
         Ok(rows) => report.try_pairs(&rows),
         Err(fault) => Err(fault),

@@ -28,7 +28,7 @@ pub fn dot(a: &[u8], b: &[u8]) -> u8
 {
     let mut sum = 0;
     for (x, y) in a.chunks(STRETCH).zip(b.chunks(STRETCH)) {
-        // each stretch is reduced before it is added, so that 32 bits hold the sum
+        // reduced before it is added, since nothing but its type bounds the plain sum of a stretch
         sum = (sum + plain_sum(x, y) % 6) % 6;
     }
     sum as u8

@@ -12,11 +12,10 @@ use words::Words;
 
 // The answer to one line: what its trial finds, or the refusal that stops it.
 pub(crate) fn answer_to(heap: Global, line: &str) -> Result<String, AllocError> {
-    match tried(heap, line) {
-        Ok(answer) => Ok(answer),
-        Err(Stop::Refused(fault)) => Refusal(fault).to_string(heap),
-        Err(Stop::Memory(error)) => Err(error),
-    }
+    tried(heap, line).or_else(|stop| match stop {
+        Stop::Refused(fault) => Refusal(fault).to_string(heap),
+        Stop::Memory(error) => Err(error),
+    })
 }
 
 // What the trial that a line asks for finds.
