@@ -1,6 +1,7 @@
 -- The plain sum of the products of two rows, taken along both at once, and stretch by stretch.
 use Rattle.std.proofs.Common.{◌≡◌, ℕ, zero, suc, ◌+◌, ◌*◌, ◌%◌, ◌<◌, ◌⊎◌, inl, inr, min, List, [], ◌∷◌, ◌++◌, length, sum_by, refl, ap, ◌∙◌, sym, mul-zero, length-append, arith}
 use Rattle.std.specs.List.{zip}
+use Rattle.std.proofs.lemmas.List.{nil_from_length}
 use Rattle.std.proofs.lemmas.List.Sums.{sum_by-cons}
 use Rattle.digits.specs.Rows.{at}
 use Rattle.digits.specs.Sums.{total}
@@ -46,8 +47,7 @@ zipped-append (x ∷ xs) us (y ∷ ys) vs hu hv =
 
 -- a part that is as long as the row leaves nothing behind it
 nothing_left : (xs us : List ℕ) → length xs ≡ length (xs ++ us) → us ≡ []
-nothing_left xs [] h = refl
-nothing_left xs (u ∷ us) h = absurd (omega (arith, length-append xs (u ∷ us)))
+nothing_left xs us h = nil_from_length us (omega (arith, length-append xs us))
 
 -- the step of a loop that sums the products along both rows, a stretch of so many digits at a time
 pub stretch_more : (size m n sum plain : ℕ) (a b x y us vs : List ℕ) → m ≡ size → n ≡ size → a ≡ x ++ us → b ≡ y ++ vs →

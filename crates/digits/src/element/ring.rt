@@ -1,8 +1,7 @@
 // The ring of elements: sum, product, division by a power of g, and scaling by a digit.
-ghost use Rattle.std.specs.Prelude.{◌≡◌, ℕ, ◌+◌, ◌-◌, ◌*◌, ◌%◌, ◌<◌};
+ghost use Rattle.std.specs.Prelude.{◌≡◌, ℕ, ◌%◌, ◌<◌};
 ghost use Rattle.digits.specs.Elements.{plus, times, times_digit, scaled, turned, power};
 ghost use Rattle.digits.specs.Rows.{at};
-ghost use Rattle.digits.specs.Sums.{same, total};
 
 use crate::element::Element;
 use crate::product::dot;
