@@ -1,8 +1,15 @@
+pub mod Additive
+pub mod DigitRows
 pub mod Equality
 pub mod Multiplying
 pub mod Passing
+pub mod PowerSums
+pub mod Powers
+pub mod RingLaws
+pub mod RingSums
 pub mod RowLaws
 pub mod Stretches
+pub mod SumLaws
 pub mod Sums
 pub mod Turning
 pub mod Zips

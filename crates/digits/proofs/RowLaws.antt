@@ -5,8 +5,8 @@ use Rattle.std.proofs.lemmas.List.{ext_get_or, get_or_append_left, get_or-append
 use Rattle.std.proofs.lemmas.Bool.{cases_Bool, cases_lt, ltb-true, leb-true, and_parts, cond-true, cond-false}
 use Rattle.faults.specs.declared.Layer.{Layer}
 use Rattle.digits.specs.Rows.{at, row, Digits, first_above}
-use Rattle.digits.proofs.Passing.{passed}
 use Rattle.digits.specs.Refusals.{limit_fault}
+use Rattle.digits.proofs.Passing.{passed}
 
 pub length-row : (n : ℕ) (f : ℕ → ℕ) → length (row n f) ≡ n
 length-row n f = length-map-range_with_len f 0 n

@@ -1,19 +1,17 @@
 -- Turning an element is dividing it by a power of g.
 use Rattle.std.proofs.Common.{◌≡◌, ℕ, ◌+◌, ◌-◌, ◌*◌, ◌%◌, ◌<◌, List, ◌++◌, length, take, drop, sym, refl, ap, ◌∙◌, one-mul, zero-mul, length-append, length-drop, length-take, arith}
+use Rattle.std.proofs.lemmas.Bool.Decides.{nat_tests}
 use Rattle.std.proofs.lemmas.List.FromFn.{fill_by_all}
-use Rattle.digits.specs.Elements.{power, times, turned}
+use Rattle.digits.specs.Elements.{power, times, scaled, turned}
 use Rattle.digits.specs.Rows.{at, Digits}
 use Rattle.digits.specs.Sums.{same}
-use Rattle.digits.proofs.RowLaws.{at_row, at_rotated}
+use Rattle.digits.proofs.RowLaws.{at_row, at_rotated, row_cong}
 use Rattle.digits.proofs.Multiplying.{at-times}
 use Rattle.digits.proofs.Sums.{total_only, same_yes, same_no}
 
 -- the power s of g has a 1 at s modulo 6 and 0 elsewhere
-power_own : (s : ℕ) → at (power 1 s) (s % 6) ≡ 1
-power_own s = at_row 6 (λ r. 1 * same (s % 6) r % 6) (s % 6) (omega arith) ∙ ap (λ d. 1 * d % 6) (same_yes (s % 6) (s % 6) refl)
-
-power_other : (s i : ℕ) → i < 6 → (i ≡ s % 6 → ⊥) → at (power 1 s) i ≡ 0
-power_other s i h ne = at_row 6 (λ r. 1 * same (s % 6) r % 6) i h ∙ ap (λ d. 1 * d % 6) (same_no (s % 6) i (λ e. ne (sym e)))
+pub at_power : (s r : ℕ) → r < 6 → at (power 1 s) r ≡ same (s % 6) r
+at_power s r h = at_row 6 (λ q. 1 * same (s % 6) q % 6) r h ∙ grind (arith, nat_tests)
 
 -- digit r of a power of g times an element is that element's digit so far below r
 pub at-power-times : (s r : ℕ) (x : List ℕ) → r < 6 → at (times (power 1 s) x) r ≡ at x ((r + 6 - s % 6) % 6) % 6
@@ -21,8 +19,8 @@ at-power-times s r x h =
     at-times (power 1 s) x r h
     ∙ ap (λ d. d % 6)
     (total_only 6 (s % 6) (λ i. at (power 1 s) i * at x ((r + 6 - i) % 6)) (omega arith)
-    (λ i l ne. ap (λ d. d * at x ((r + 6 - i) % 6)) (power_other s i l ne) ∙ zero-mul (at x ((r + 6 - i) % 6)))
-    ∙ ap (λ d. d * at x ((r + 6 - s % 6) % 6)) (power_own s) ∙ one-mul (at x ((r + 6 - s % 6) % 6)))
+    (λ i l ne. ap (λ d. d * at x ((r + 6 - i) % 6)) (at_power s i l ∙ same_no (s % 6) i (λ e. ne (sym e))) ∙ zero-mul (at x ((r + 6 - i) % 6)))
+    ∙ ap (λ d. d * at x ((r + 6 - s % 6) % 6)) (at_power s (s % 6) (omega arith) ∙ same_yes (s % 6) (s % 6) refl) ∙ one-mul (at x ((r + 6 - s % 6) % 6)))
 
 -- what was turned by s, times the power s of g, is the element again
 pub turned_divides : (s : ℕ) (e x : List ℕ) → Digits e → x ≡ turned s e → (r : ℕ) → r < 6 → at (times (power 1 s) x) r ≡ at e r
@@ -40,3 +38,11 @@ rotated_turned s e x six is =
     fill_by_all (λ r. at e ((r + s) % 6)) x 6 0
     (ap length is ∙ omega (arith, length-append (drop (s % 6) e) (take (s % 6) e), length-drop (s % 6) e, length-take (s % 6) e))
     (λ r h. ap (λ y. at y r) is ∙ at_rotated e (s % 6) r six (omega arith) h ∙ ap (at e) (omega arith))
+
+-- turning goes digit by digit, so a number of times may be taken after it
+pub turned-scaled : (s a : ℕ) (e : List ℕ) → turned s (scaled a e) ≡ scaled a (turned s e)
+turned-scaled s a e =
+    row_cong 6 (λ r. at (scaled a e) ((r + s) % 6)) (λ r. a * at (turned s e) r % 6)
+    (λ r h.
+    at_row 6 (λ q. a * at e q % 6) ((r + s) % 6) (omega arith)
+    ∙ ap (λ d. a * d % 6) (sym (at_row 6 (λ q. at e ((q + s) % 6)) r h)))

@@ -28,6 +28,10 @@ scaled a e = row 6 (λ r. a * at e r % 6)
 abbrev pub turned : ℕ → List ℕ → List ℕ
 turned s e = row 6 (λ r. at e ((r + s) % 6))
 
+-- the element of the six numbers of a row from a place on, each taken modulo 6; past the row's end they are 0
+abbrev pub element_at : List ℕ → ℕ → List ℕ
+element_at xs place = row 6 (λ r. at xs (place + r) % 6)
+
 -- whether two elements have the same six digits
 abbrev pub same_element : List ℕ → List ℕ → Bool
 same_element e f =

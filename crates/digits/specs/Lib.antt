@@ -3,3 +3,4 @@ pub mod Refusals
 pub mod Sums
 pub mod Elements
 pub mod Tapes
+pub mod Ring

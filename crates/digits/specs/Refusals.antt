@@ -24,7 +24,7 @@ width_fault n found = cond (found == n) None (Some (length_fault found))
 
 -- what is amiss with a row that must have n bytes: the length found
 abbrev pub long_fault : ℕ → List ℕ → Option Fault
-long_fault n xs = cond (length xs == n) None (Some (length_fault (length xs)))
+long_fault n xs = width_fault n (length xs)
 
 -- what is amiss with a row that is to be n digits: its length, else its first byte above 5
 abbrev pub row_fault : ℕ → List ℕ → Option Fault

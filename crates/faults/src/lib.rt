@@ -33,7 +33,7 @@ pub enum Cause {
     Position(usize),
     // fewer tape digits left than a request takes: the digits left
     Spent(usize),
-    // two sheets that no table explains: the position asked for
+    // two sheets that come to no entry: the position asked for
     AtOdds(usize),
     // no room for another change: how many are held
     Full(usize),
@@ -153,7 +153,7 @@ impl Fault {
         }
     }
 
-    // Two sheets that no table explains, for the position asked for.
+    // Two sheets that come to no entry, for the position asked for.
     pub fn at_odds(position: usize) -> Fault
         ensures { result ≡ at_odds_fault position }
     {

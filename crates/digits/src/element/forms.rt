@@ -1,12 +1,13 @@
 // Elements made, read from rows of six digits, written to them, and looked at digit by digit.
 ghost use Rattle.std.specs.Prelude.{◌≡◌, ◌%◌, Some, None, MatchResult};
-ghost use Rattle.digits.specs.Elements.{zero_element};
+ghost use Rattle.digits.specs.Elements.{zero_element, element_at};
 ghost use Rattle.digits.specs.Refusals.{long_fault, row_fault};
 ghost use Rattle.digits.specs.Rows.{at};
 
 use crate::element::Element;
-use crate::rows::{check_length, check_row};
+use crate::rows::{check_length, check_row, digit_at};
 use faults::Fault;
+use std::array;
 
 impl Element {
     // The element whose digits are all 0.
@@ -14,6 +15,16 @@ impl Element {
         ensures { result.digits ≡ zero_element }
     {
         Element { digits: [0; 6] }
+    }
+
+    // The element of the six numbers of a row from a place on, each taken modulo 6; past the row's end they are 0.
+    pub fn read_at(row: &[u8], place: usize) -> Element
+        ensures { result.digits ≡ element_at row.now place }
+    {
+        let rest = row.get(place..).unwrap_or(&[]);
+        Element {
+            digits: array::from_fn(|r| digit_at(rest, r) % 6),
+        }
     }
 
     // Writes the six digits into a row of that length; any other row is refused and stays as it was.
@@ -32,6 +43,17 @@ impl Element {
         ensures { result ≡ at self.now.digits (r % 6) }
     {
         self.digits[r % 6]
+    }
+}
+
+// The element of six numbers, each taken modulo 6.
+impl From<[u8; 6]> for Element {
+    ghost from_gives = { λ numbers e. e.digits ≡ element_at numbers 0 };
+
+    fn from(numbers: [u8; 6]) -> Element {
+        Element {
+            digits: numbers.map(|number| number % 6),
+        }
     }
 }
 
