@@ -26,20 +26,27 @@ sheet_size k = 6 * (1 + k)
 unfoldable pub answered : Vectors → (ℕ → ℕ) → List ℕ → List ℕ → List ℕ
 answered f a p sheet = row (sheet_size f.dim) (λ x. (at sheet x + answer f a p x) % 6)
 
+-- a sheet of zeros, as it is handed to a host
 abbrev pub zero_sheet : Vectors → List ℕ
 zero_sheet f = row (sheet_size f.dim) (λ x. 0)
+
+-- the sheet of a table for a query: what an answer leaves that is added to zeros
+abbrev pub sheet_of : Vectors → (ℕ → ℕ) → List ℕ → List ℕ
+sheet_of f a p = answered f a p (zero_sheet f)
 
 -- a table of digits, one for each position (the usual word is the database)
 abbrev pub Table : Vectors → (ℕ → ℕ) → Type 0
 Table f a = (i : ℕ) → i < f.count → a i < 6
 
+-- what a host takes as a query: k digits
 abbrev pub Query : Vectors → List ℕ → Type 0
 Query f p = (length p ≡ f.dim) × Digits p
 
+-- and as a sheet: 6 (1 + k) digits
 abbrev pub Sheet : Vectors → List ℕ → Type 0
 Sheet f xs = (length xs ≡ sheet_size f.dim) × Digits xs
 
 -- The answering rule. A host, as promises see it, turns a query and a sheet into what the sheet holds after: whatever
 -- adds the table's answer to every sheet for every query is a host of that table. (The usual word is a server.)
-abbrev pub Answers : Vectors → (ℕ → ℕ) → (List ℕ → List ℕ → List ℕ) → Type 0
-Answers f a host = (p sheet : List ℕ) → Query f p → Sheet f sheet → host p sheet ≡ answered f a p sheet
+abbrev pub HostOf : Vectors → (ℕ → ℕ) → (List ℕ → List ℕ → List ℕ) → Type 0
+HostOf f a host = (p sheet : List ℕ) → Query f p → Sheet f sheet → host p sheet ≡ answered f a p sheet

@@ -3,6 +3,8 @@ pub mod Queries
 pub mod Recovery
 pub mod Sessions
 pub mod Runs
+pub mod Steps
 pub mod Law
-pub mod Tables
 pub mod Counters
+pub mod Tables
+pub mod Published

@@ -1,17 +1,21 @@
 -- Recovery: what two sheets come to, and the entry read from it. (The usual word is reconstruction.)
 use Rattle.std.specs.Prelude.{ℕ, ◌+◌, ◌-◌, ◌*◌, ◌%◌, Bool, cond, List, [], ◌∷◌, Some, None, Option}
-use Rattle.digits.specs.Rows.{at, row}
-use Rattle.digits.specs.Sums.{total}
-use Rattle.digits.specs.Elements.{plus, times, scaled, turned, same_element}
+use Rattle.digits.specs.Rows.{at}
+use Rattle.digits.specs.Elements.{plus, times, scaled, turned, element_at, same_element}
+use Rattle.digits.specs.Ring.{sum_of}
 use Rattle.family.specs.Vectors.{Vectors}
 
--- Y1 and Y3: a sheet's value, its first six digits (their remainders, so that every row has one)
+-- Y1 and Y3: a sheet's value, its first six digits
 abbrev pub value : List ℕ → List ℕ
-value sheet = row 6 (λ r. at sheet r % 6)
+value sheet = element_at sheet 0
+
+-- a sheet's element of coordinate c, the six digits after those of the value and of the coordinates before
+abbrev pub element_of : List ℕ → ℕ → List ℕ
+element_of sheet c = element_at sheet (6 * (1 + c))
 
 -- Y2 and Y4: the sum over all coordinates c of v(t)c times the sheet's element of c
 abbrev pub slope : Vectors → ℕ → List ℕ → List ℕ
-slope f t sheet = row 6 (λ r. total f.dim (λ c. f.v t c * at sheet (6 * (1 + c) + r)) % 6)
+slope f t sheet = sum_of f.dim (λ c. scaled (f.v t c) (element_of sheet c))
 
 -- the weights of Y1, Y2, Y3 and Y4
 abbrev pub C1 : List ℕ
@@ -26,7 +30,7 @@ C3 = 0 ∷ 1 ∷ 0 ∷ 3 ∷ 2 ∷ 0 ∷ []
 abbrev pub C4 : List ℕ
 C4 = 0 ∷ 5 ∷ 0 ∷ 3 ∷ 4 ∷ 0 ∷ []
 
--- what an entry of 1 comes to
+-- X where the entry is 1
 abbrev pub D : List ℕ
 D = 0 ∷ 2 ∷ 0 ∷ 3 ∷ 4 ∷ 3 ∷ []
 

@@ -1,7 +1,7 @@
 -- Sessions: what opening, a request, a recovery and an abandonment do, and what they refuse.
 use Rattle.std.specs.Prelude.{ℕ, ◌+◌, ◌-◌, cond, List, length, take, drop, Some, None, Ok, Err, Option, Result, nat_le}
 use Rattle.faults.specs.declared.Fault.{Fault}
-use Rattle.faults.specs.declared.Layer.TheVariants.{Session as session_layer}
+use Rattle.faults.specs.declared.Layer.TheVariants.{Session as SessionLayer}
 use Rattle.faults.specs.Faults.{spent_fault, at_odds_fault}
 use Rattle.digits.specs.Refusals.{or_else, digits_fault, long_fault, width_fault, equal_fault, below_fault}
 use Rattle.family.specs.Vectors.{Vectors}
@@ -9,7 +9,7 @@ use Rattle.scheme.specs.Answers.{sheet_size}
 use Rattle.scheme.specs.Recovery.{found, read_entry}
 
 -- What a session keeps: its family's count and dimension, its tape (the client's randomness), the place up to which the
--- tape is used, and how many requests it took, how many of them were read, and how many ended unread.
+-- tape is used, and how many requests it took, how many lookups were read, and how many ended unread.
 pub record Session : Type 0 where
   pub count : ℕ
   pub dim : ℕ
@@ -35,12 +35,12 @@ abbrev pub next_digits : Session → List ℕ
 next_digits s = take s.dim (drop s.place s.tape)
 
 -- what is amiss with a tape of which so many digits are left, where k are needed
-abbrev pub short_fault : ℕ → ℕ → Option Fault
-short_fault k left = cond (nat_le k left) None (Some (spent_fault left))
+abbrev pub tape_fault : ℕ → ℕ → Option Fault
+tape_fault k left = cond (nat_le k left) None (Some (spent_fault left))
 
 -- what is amiss with the family f that a call on a session of count n and dimension k is handed: count, then dimension
 abbrev pub family_fault : ℕ → ℕ → Vectors → Option Fault
-family_fault n k f = or_else (equal_fault session_layer n f.count) (equal_fault session_layer k f.dim)
+family_fault n k f = or_else (equal_fault SessionLayer n f.count) (equal_fault SessionLayer k f.dim)
 
 -- what is amiss with a request for position t, for queries into rows of l and m bytes, where so many digits are left
 abbrev pub request_fault : ℕ → ℕ → ℕ → Vectors → ℕ → ℕ → ℕ → Option Fault
@@ -48,7 +48,7 @@ request_fault n k left f t l m =
     or_else (family_fault n k f)
     (or_else (width_fault k l)
     (or_else (width_fault k m)
-    (or_else (below_fault session_layer n t) (short_fault k left))))
+    (or_else (below_fault SessionLayer n t) (tape_fault k left))))
 
 -- what is amiss with two sheets that a recovery is handed: lengths first, then digits, the first sheet's before the second's
 abbrev pub sheets_fault : ℕ → List ℕ → List ℕ → Option Fault

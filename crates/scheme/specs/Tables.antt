@@ -1,17 +1,21 @@
--- Sums of tables: hosts of two tables, one after the other, are a host of their sum.
-use Rattle.std.specs.Prelude.{◌≡◌, ℕ, ◌+◌, ◌%◌, List}
+-- Hosts and their tables: what tells a table, and hosts of two tables that, one after the other, are a host of their sum.
+use Rattle.std.specs.Prelude.{◌≡◌, ℕ, ◌+◌, ◌%◌, ◌<◌, List}
 use Rattle.family.specs.Vectors.{Vectors}
-use Rattle.scheme.specs.Answers.{answer, answered, Answers}
+use Rattle.scheme.specs.Answers.{answer, answered, Table, HostOf}
 
 -- the sum of two tables, entry by entry
 abbrev pub table_sum : (ℕ → ℕ) → (ℕ → ℕ) → ℕ → ℕ
 table_sum a b i = (a i + b i) % 6
 
-pub record SumsOfTables : Type 0 where
-  -- the sum of two tables answers with the sum of the answers, at each place of a sheet
+pub record HostsOfTables : Type 0 where
+  -- a table is told by its entries at positions: a host of one is a host of any that has the same
+  pub same_entries : (f : Vectors) (a b : ℕ → ℕ) → ((i : ℕ) → i < f.count → a i ≡ b i) → (host : List ℕ → List ℕ → List ℕ) →
+      HostOf f a host → HostOf f b host
+  -- the sum of two tables is a table of digits, and it answers with the sum of the answers, at each place of a sheet
+  pub sum_digits : (f : Vectors) (a b : ℕ → ℕ) → Table f (table_sum a b)
   pub sum_answers : (f : Vectors) (a b : ℕ → ℕ) (p : List ℕ) (x : ℕ) → answer f (table_sum a b) p x ≡ (answer f a p x + answer f b p x) % 6
   -- adding one answer to a sheet and then the other is adding that of the sum
   pub sum_answered : (f : Vectors) (a b : ℕ → ℕ) (p sheet : List ℕ) → answered f b p (answered f a p sheet) ≡ answered f (table_sum a b) p sheet
   -- so two hosts, one after the other, keep the answering rule for the sum, which may be summed again
-  pub sum_host : (f : Vectors) (a b : ℕ → ℕ) (one two : List ℕ → List ℕ → List ℕ) → Answers f a one → Answers f b two →
-      Answers f (table_sum a b) (λ p sheet. two p (one p sheet))
+  pub sum_host : (f : Vectors) (a b : ℕ → ℕ) (one two : List ℕ → List ℕ → List ℕ) → HostOf f a one → HostOf f b two →
+      HostOf f (table_sum a b) (λ p sheet. two p (one p sheet))
