@@ -1,0 +1,28 @@
+-- What a recovery gives that is handed a family which is not refused and two fit sheets.
+use Rattle.std.proofs.Common.{◌≡◌, ℕ, List, length, Some, None, Ok, ap₂, subst, eq-eqb}
+use Rattle.std.proofs.lemmas.Bool.{cond-true}
+use Rattle.digits.specs.Refusals.{long_fault}
+use Rattle.digits.proofs.DigitRows.{digits_pass}
+use Rattle.digits.proofs.Passing.{none_or_else}
+use Rattle.family.specs.Vectors.{Vectors}
+use Rattle.scheme.specs.Answers.{Sheet, sheet_size}
+use Rattle.scheme.specs.Recovery.{found, read_entry}
+use Rattle.scheme.specs.Sessions.{family_fault, sheets_fault, read_or_odds, unless, outcome}
+use Rattle.scheme.proofs.Taken.{family_is}
+
+module _ (f : Vectors) (one two : List ℕ) (fit_one : Sheet f one) (fit_two : Sheet f two) where
+  sheets_pass : sheets_fault f.dim one two ≡ None
+  sheets_pass =
+      let long : (xs : List ℕ) → Sheet f xs → long_fault (sheet_size f.dim) xs ≡ None =
+      λ xs fit. cond-true _ None _ (eq-eqb (length xs) (sheet_size f.dim) fit.0) in
+      none_or_else _ _ (long one fit_one)
+      (none_or_else _ _ (long two fit_two)
+      (none_or_else _ _ (digits_pass one fit_one.1) (digits_pass two fit_two.1)))
+
+  pub reads : (n k t turn e : ℕ) → family_fault n k f ≡ None → read_entry (found f t turn one two) ≡ Some e → outcome n k f t turn one two ≡ Ok e
+  unfolding outcome
+  reads n k t turn e family read =
+      ap₂ (λ fault r. unless fault (read_or_odds t r))
+      (none_or_else (family_fault n k f) (sheets_fault k one two) family
+      (subst (λ d. sheets_fault d one two ≡ None) (family_is n k f family).1 sheets_pass))
+      read
