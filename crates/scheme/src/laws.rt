@@ -1,0 +1,36 @@
+// What is proved of the definitions, each fact as the contract of a function, since what a contract states has to be proved.
+ghost use Rattle.scheme.specs.Counters.{RunCounters};
+ghost use Rattle.scheme.specs.Law.{LawOfRuns};
+ghost use Rattle.scheme.specs.Published.{AsPublished};
+ghost use Rattle.scheme.specs.Steps.{OneStep};
+ghost use Rattle.scheme.specs.Tables.{HostsOfTables};
+
+// Holds in its contract the law of all runs, of every list of calls on a session: a lookup gives the table's entry, and no
+// host learns the position.
+pub fn law_of_runs()
+    ensures { LawOfRuns }
+{}
+
+// Holds in its contract that a ready session takes every request, and a waiting one every recovery and abandonment; that
+// what such a call shows, and where it leads, is settled; and that no state takes another call.
+pub fn one_step()
+    ensures { OneStep }
+{}
+
+// Holds in its contract what a session's numbers say of the run that led to it: requests taken are lookups read plus
+// lookups that ended unread, plus one while waiting, and the place is the requests taken times the dimension.
+pub fn run_counters()
+    ensures { RunCounters }
+{}
+
+// Holds in its contract that a table is told by its entries at positions, and that the sum of two tables answers with the
+// sum of the answers, so that hosts of two tables, one after the other, are a host of the sum.
+pub fn hosts_of_tables()
+    ensures { HostsOfTables }
+{}
+
+// Holds in its contract that answers and recovery are those of the scheme as it was published: a sheet is the value and the
+// derivative of the table's polynomial at the query's point, and recovery solves the four equations that two sheets give.
+pub fn as_published()
+    ensures { AsPublished }
+{}
