@@ -4,4 +4,4 @@ pub mod Lettering
 pub mod Weighing
 pub mod Telling
 pub mod Spreading
-pub mod WorkedNumbers
+pub mod FamilyNumbers

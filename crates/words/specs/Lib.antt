@@ -4,7 +4,7 @@ pub mod Words
 pub mod Sizes
 pub mod Agreement
 pub mod Own
-pub mod WorkedCases
+pub mod FamilyCases
 pub mod WordFamily
 pub mod Limits
 pub mod Binomials

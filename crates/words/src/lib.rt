@@ -2,8 +2,8 @@
 
 #![tactic(auto)]
 
+pub mod distance;
 pub mod words;
-pub mod worked;
 
+pub use distance::distance_law;
 pub use words::Words;
-pub use worked::{distance_law, worked_cases};

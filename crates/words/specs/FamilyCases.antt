@@ -1,4 +1,4 @@
--- Worked cases of the definitions, by their numbers, and the law behind those of words.
+-- Worked cases of families, by their numbers, and the law behind those of words.
 use Rattle.std.specs.Prelude.{◌≡◌, ℕ, ◌*◌, ◌%◌, ◌^◌, ◌<◌, ◌≤◌, [], ◌∷◌, slice_index}
 use Rattle.std.specs.List.{range_with_len}
 use Rattle.digits.specs.Elements.{power, times, zero_element}
@@ -21,7 +21,7 @@ DistanceLaw =
     (h q t t' : ℕ) → 1 ≤ h → h ≤ 5 → 2 ≤ q → q ≤ 16 → t < q ^ h → t' < q ^ h →
     pairing (word_vectors h q) t t' ≡ distance h q t t' * distance h q t t' % 6
 
-pub record WorkedCases : Type 0 where
+pub record FamilyCases : Type 0 where
   -- the first word's u: coordinate 0, and its letter 0
   pub first_u : row 3 (smallest.u 0) ≡ 1 ∷ 1 ∷ 0 ∷ []
   -- the second word's u and v: coordinate 0, and its letter 1

@@ -1,4 +1,4 @@
--- The worked cases hold.
+-- The worked cases of families hold, and the law behind those of words.
 use Rattle.std.proofs.Common.{◌≡◌, ℕ, ◌+◌, ◌-◌, ◌*◌, ◌%◌, ◌^◌, ◌<◌, ◌≤◌, true, cond, not, eqb, List, [], ◌∷◌, length, get_or, sym, refl, ap, ◌∙◌, inl, inr, arith}
 use Rattle.std.specs.List.{range_with_len}
 use Rattle.std.proofs.lemmas.List.FromFn.{length-range_with_len}
@@ -11,7 +11,7 @@ use Rattle.words.specs.Agreement.{agreements, differences, binomial, by_agreemen
 use Rattle.words.specs.Marks.{mark}
 use Rattle.words.specs.Places.{choose}
 use Rattle.words.specs.Words.{letter, word_digit, word_vectors}
-use Rattle.words.specs.WorkedCases.{WorkedCases, DistanceLaw, distance}
+use Rattle.words.specs.FamilyCases.{FamilyCases, DistanceLaw, distance}
 use Rattle.words.specs.EachBelow.{each_below, from_each}
 use Rattle.words.specs.Matching.{common, pairing_agreement}
 use Rattle.digits.proofs.Sums.{same_yes, same_no}
@@ -66,9 +66,9 @@ five q t t' some few l l' =
     squared 5 q t t' (omega arith) (omega arith) some few l l'
     ∙ eqb-true _ _ (from_each (λ d. eqb (d * d % 6) (get_or (0 ∷ 1 ∷ 4 ∷ 3 ∷ 4 ∷ 1 ∷ []) d 0)) 6 squares (distance 5 q t t') (omega arith))
 
-pub worked : WorkedCases
+pub family_cases : FamilyCases
 unfolding total mark choose word_digit times_digit
-worked =
+family_cases =
     record {
       first_u = refl;
       second_u = refl;
