@@ -150,6 +150,36 @@ def examined(data):
         return found, refusal
 
 
+C1, C2, C3, C4 = (0, 1, 0, 0, 2, 3), (0, 5, 0, 0, 4, 3), (0, 1, 0, 3, 2, 0), (0, 5, 0, 3, 4, 0)
+D = (0, 2, 0, 3, 4, 3)
+
+
+def answered(family, table, query):
+    """The sheet of a table for a query: the value, then the element of each coordinate."""
+    sheet = [[0] * 6 for _ in range(1 + family.dimension)]
+    for entry, (u, _) in zip(table, family.all_rows()):
+        e = dot(u, query)
+        for place, factor in enumerate([1] + u):
+            sheet[place][e] += entry * factor
+    return [d % 6 for one in sheet for d in one]
+
+
+def six_at(row, place):
+    """Six numbers of a row from a place on, modulo 6; past its end they are 0."""
+    return [d % 6 for d in (list(row[place:place + 6]) + [0] * 6)[:6]]
+
+
+def weighed(*four):
+    products = [times(c, y) for c, y in zip((C1, C2, C3, C4), four)]
+    return [sum(digits) % 6 for digits in zip(*products)]
+
+
+def entry_of(x):
+    """The entry that X is D times, or None where it is no entry times D."""
+    found = [a for a in range(6) if [a * d % 6 for d in D] == list(x)]
+    return found[0] if found else None
+
+
 def book(data):
     _, came = examined(data)
     if isinstance(came, Refused):
@@ -233,6 +263,23 @@ def drawn(data, tape):
     if len(data) != len(tape):
         return f"{length(len(data))} tape{spaced(tape)}"
     return f"tape{spaced([b % 6 for b in data])}"
+
+
+def told_entry(x):
+    entry = entry_of(x)
+    return "at odds" if entry is None else f"entry {entry}"
+
+
+def recovered(family, t, s, sheets):
+    """Each step of a recovery from two rows of any length."""
+    v = family.rows(t)[1]
+    four = []
+    for sheet in sheets:
+        elements = [six_at(sheet, 6 * (1 + c)) for c in range(family.dimension)]
+        four += [six_at(sheet, 0), [sum(d * e[r] for d, e in zip(v, elements)) % 6 for r in range(6)]]
+    w = weighed(*four)
+    x = turned(w, s)
+    return "".join(f"y{spaced(y)} " for y in four) + f"w{spaced(w)} x{spaced(x)} {told_entry(x)}"
 
 
 # ---- the cases ------------------------------------------------------------------------------------------------------
@@ -351,6 +398,88 @@ def kinds(rng):
         yield "book", [hexed(held)], i, lambda: book(held)
 
 
+def lookups(rng):
+    """Recoveries: from sheets of one table, from damaged ones, and from rows that are no sheets."""
+    for h, q in ((1, 2), (1, 3), (1, 16), (2, 2), (2, 3), (3, 2), (4, 2), (5, 2)):
+        family = words(h, q)
+        for trial in range(8):
+            t = rng.randrange(family.count)
+            table = some_row(rng, family.count)
+            # each entry from 0 to 5 is sought, and the last two seek whatever stands there
+            table[t] = trial if trial < 6 else table[t]
+            z = some_row(rng, family.dimension)
+            if (h, q, trial) == (1, 2, 5):
+                t, table, z = 1, [2, 5], [3, 1, 4]
+            u, v = family.rows(t)
+            s = dot(u, z)
+            sheets = [answered(family, table, p) for p in (z, [(a + b) % 6 for a, b in zip(z, v)])]
+            assert recovered(family, t, s, sheets).endswith(f"entry {table[t]}")
+            if (h, q, trial) == (1, 2, 5):
+                # the worked case, by its numbers
+                assert sheets[0] == [0, 5, 0, 0, 2, 0] * 2 + [0, 0, 0, 0, 2, 0] + [0, 5, 0, 0, 0, 0]
+                assert "w 3 0 4 0 3 2 " in recovered(family, t, s, sheets) and s == 1
+            yield h, q, t, s, sheets
+            yield h, q, t, s, sheets[::-1]
+            yield h, q, t, (s + 1) % 6, sheets
+            yield h, q, (t + 1) % family.count, s, sheets
+            for which in range(2):
+                place = rng.randrange(len(sheets[0]))
+                damaged = [list(sheet) for sheet in sheets]
+                damaged[which][place] = (damaged[which][place] + rng.randint(1, 5)) % 6
+                yield h, q, t, s, damaged
+        k = family.dimension
+        for n, m in ((0, 0), (5, 7), (6 * k + 5, 6 * k + 6), (6 * k + 7, 6 * k)):
+            yield h, q, family.count, 255, [some_row(rng, n, 255), some_row(rng, m, 255)]
+            yield h, q, 0, rng.randint(0, 255), [some_row(rng, n, 255), some_row(rng, m, 255)]
+
+
+def recoveries(rng):
+    for r in range(5):
+        one, power = [1, 0, 0, 0, 0, 0], [int(place == r) for place in range(6)]
+        scale = lambda e: [r * d % 6 for d in e]
+        four = one, scale(one), power, scale(power)
+        yield "weighed " + " ".join(map(hexed, four)), lambda four=four: f"weighed{spaced(weighed(*four))}"
+    for _ in range(60):
+        four = [some_row(rng, 6) for _ in range(4)]
+        yield "weighed " + " ".join(map(hexed, four)), lambda four=four: f"weighed{spaced(weighed(*four))}"
+    for a in range(6):
+        whole = [a * d % 6 for d in D]
+        yield f"entry {hexed(whole)}", lambda whole=whole: told_entry(whole)
+        for place in range(6):
+            for d in range(1, 6):
+                other = whole[:place] + [(whole[place] + d) % 6] + whole[place + 1:]
+                yield f"entry {hexed(other)}", lambda other=other: told_entry(other)
+    yield "entry 000100000203", lambda: told_entry([0, 1, 0, 0, 2, 3])
+    for h, q, t, s, (one, two) in lookups(rng):
+        yield (
+            f"recover {h} {q} {t} {s} {hexed(one)} {hexed(two)}",
+            lambda h=h, q=q, t=t, s=s, one=one, two=two: recovered(words(h, q), t, s, (one, two)),
+        )
+
+
+def odd_lines():
+    """Lines that ask for no case, and words that are no numbers, rows or elements."""
+    for line in ("", "element", "unit", "words 1", "recover 1 2 0 0 00", "Unit 3", "weigh 00"):
+        yield line, lambda: "no such trial"
+    for line in ("unit 3 0 1", "words 1 2 0 1 2", "part 1 1 0 0"):
+        yield line, lambda: "no such trial of a family"
+    for line in ("modulo -", "modulo 0102030405"):
+        yield line, lambda: "no six numbers"
+    for line in ("weighed", "weighed 000000000000", "weighed - - - - -"):
+        yield line, lambda: "no four elements"
+    # a word that is no number is the largest there is
+    for word in ("x", "-1", "1x"):
+        yield f"unit {word}", lambda: str(size(2**64 - 1))
+        yield f"element 010203040500 0 {word}", lambda: alone([1, 2, 3, 4, 5, 0], 0, 255)
+    # a letter that is no digit counts as 0, and a lone last one is dropped
+    yield "draw 0g1f2 0000", lambda: drawn([0, 31], [0, 0])
+    yield "draw fF -", lambda: drawn([240], [])
+    # elements that are none
+    for row in ([], [0] * 5, [0, 0, 0, 0, 0, 6], [9, 0, 0, 0, 0, 0, 0]):
+        yield f"entry {hexed(row)}", lambda row=row: told_entry(element(row))
+        yield f"weighed {hexed([0] * 6)} {hexed(row)} {hexed([6] * 6)} -", lambda row=row: told_entry(element(row))
+
+
 def cases(rng):
     for b in books(rng):
         yield "book " + hexed(b), lambda b=b: asked(book(b), [])
@@ -400,6 +529,15 @@ def cases(rng):
     for n, m in ((0, 0), (1, 1), (3, 2), (2, 3), (0, 1)):
         data, tape = some_row(rng, n, 255), some_row(rng, m, 255)
         yield f"draw {hexed(data)} {hexed(tape)}", lambda data=data, tape=tape: drawn(data, tape)
+    for n in (0, 1, 6, 7, 13):
+        row = some_row(rng, n, 255)
+        for place in (0, 1, 6, 7, 12, 13, 14, 2**64 - 1):
+            yield f"six {hexed(row)} {place}", lambda row=row, place=place: f"six{spaced(six_at(row, place))}"
+    for _ in range(6):
+        row = some_row(rng, 6, 255)
+        yield f"modulo {hexed(row)}", lambda row=row: f"modulo{spaced(six_at(row, 0))}"
+    yield from recoveries(rng)
+    yield from odd_lines()
 
 
 def main():
@@ -408,8 +546,11 @@ def main():
     parser.add_argument("--check", action="store_true")
     options = parser.parse_args()
     rng = random.Random(options.seed)
-    lines, answers = [], []
+    lines, answers, asked_before = [], [], set()
     for line, work in cases(rng):
+        if line in asked_before:
+            continue
+        asked_before.add(line)
         lines.append(line)
         try:
             answers.append(work())

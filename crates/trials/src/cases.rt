@@ -1,6 +1,7 @@
 // Which trial a line asks for.
-use crate::elements::{alone, drawn, multiplied, together, written};
+use crate::elements::{alone, cut, drawn, multiplied, reduced, together, written};
 use crate::families::ask;
+use crate::recoveries::{entry, recovered, weighed};
 use crate::reports::Told;
 use crate::stop::Stop;
 use crate::text::{Refusal, bytes_of, number};
@@ -27,6 +28,14 @@ fn tried(heap: Global, line: &str) -> Result<String, Stop> {
         ["elements", one, two] => together(heap, one, two)?,
         ["vectors", one, two] => multiplied(heap, one, two)?,
         ["draw", bytes, tape] => drawn(heap, bytes, tape)?,
+        ["six", row, place] => cut(heap, row, place)?,
+        ["modulo", row] => reduced(heap, row)?,
+        ["weighed", four @ ..] => weighed(heap, four)?,
+        ["entry", x] => entry(heap, x)?,
+        ["recover", h, q, t, shift, one, two] => {
+            let family = Words::new(number(h), number(q))?;
+            recovered(heap, &family, [*t, *shift], one, two)?
+        }
         ["unit", n, rest @ ..] => ask(heap, &UnitFamily::new(number(n))?, rest)?,
         ["words", h, q, rest @ ..] => ask(heap, &Words::new(number(h), number(q))?, rest)?,
         ["first", m, h, q, rest @ ..] => {

@@ -8,7 +8,7 @@ use std::fmt;
 
 // An element's digits, as it writes them to a row of six.
 #[derive(Clone, Copy)]
-struct Shown(Element);
+pub(crate) struct Shown(pub(crate) Element);
 
 impl fmt::Display for Shown {
     fn fmt<W: fmt::Write>(&self, f: &mut fmt::Formatter<W>) -> fmt::Result {
@@ -20,7 +20,7 @@ impl fmt::Display for Shown {
 }
 
 // The element that a word writes.
-fn element_of(heap: Global, word: &str) -> Result<Element, Stop> {
+pub(crate) fn element_of(heap: Global, word: &str) -> Result<Element, Stop> {
     Ok(Element::try_from(bytes_of(heap, word)?.as_slice())?)
 }
 
@@ -55,6 +55,24 @@ pub(crate) fn alone(heap: Global, row: &str, turn: &str, scale: &str) -> Result<
     let scaled = Shown(element.scaled(number(scale)));
     let digit = element.digit(turn);
     Ok(format!(in heap; "read{same} turned{turned} scaled{scaled} digit {digit}")?)
+}
+
+// The element of six numbers of a row, from a place on.
+pub(crate) fn cut(heap: Global, row: &str, place: &str) -> Result<String, AllocError> {
+    let element = Element::read_at(&bytes_of(heap, row)?, number(place));
+    format!(in heap; "six{}", Shown(element))
+}
+
+// The element of six numbers; a row that is too short has none.
+pub(crate) fn reduced(heap: Global, row: &str) -> Result<String, AllocError> {
+    let row = bytes_of(heap, row)?;
+    match row.as_slice() {
+        [a, b, c, d, e, f, ..] => {
+            let element = Element::from([*a, *b, *c, *d, *e, *f]);
+            format!(in heap; "modulo{}", Shown(element))
+        }
+        _ => String::from_str(heap, "no six numbers"),
+    }
 }
 
 // Two elements: their sum, their product, and whether they are the same.

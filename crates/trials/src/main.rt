@@ -5,6 +5,7 @@
 mod cases;
 mod elements;
 mod families;
+mod recoveries;
 mod reports;
 mod stop;
 mod text;
