@@ -11,20 +11,22 @@ pub fn law_of_runs()
     ensures { LawOfRuns }
 {}
 
-// Holds in its contract that a ready session takes every request, and a waiting one every recovery and abandonment; that
-// what such a call shows, and where it leads, is settled; and that no state takes another call.
+// Holds in its contract that opening refuses exactly the rows that are no tape of digits; that a ready session takes every
+// request, and a waiting one every recovery and abandonment; that what such a call shows, and where it leads, is settled; and
+// that no state takes another call.
 pub fn one_step()
     ensures { OneStep }
 {}
 
-// Holds in its contract what a session's numbers say of the run that led to it: requests taken are lookups read plus
-// lookups that ended unread, plus one while waiting, and the place is the requests taken times the dimension.
+// Holds in its contract what a session keeps through a run, which is all that it was opened on, and what its numbers say of
+// the run that led to it: requests taken are lookups read plus lookups that ended unread, plus one while waiting, and the
+// place is the requests taken times the dimension.
 pub fn run_counters()
     ensures { RunCounters }
 {}
 
 // Holds in its contract that a table is told by its entries at positions, and that the sum of two tables answers with the
-// sum of the answers, so that hosts of two tables, one after the other, are a host of the sum.
+// sum of the answers, so that hosts of two tables, one after the other on a sheet, are a host of the sum.
 pub fn hosts_of_tables()
     ensures { HostsOfTables }
 {}

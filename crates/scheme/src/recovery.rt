@@ -6,7 +6,7 @@ use crate::weighing::weighed;
 use digits::Element;
 use family::Family;
 
-// What an entry of 1 comes to.
+// X where the entry is 1.
 const D: [u8; 6] = [0, 2, 0, 3, 4, 3];
 
 // Y1 and Y3: a sheet's value.

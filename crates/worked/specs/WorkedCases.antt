@@ -104,5 +104,5 @@ pub record WorkedCases : Type 0 where
   pub at_odds : sheets_weighed smallest 1 lone_value no_value ≡ 0 ∷ 1 ∷ 0 ∷ 0 ∷ 2 ∷ 3 ∷ []
   pub no_entry : (read_entry (turned 0 (0 ∷ 1 ∷ 0 ∷ 0 ∷ 2 ∷ 3 ∷ [])) ≡ None) × (entry (0 ∷ 1 ∷ 0 ∷ 0 ∷ 2 ∷ 3 ∷ []) ≡ 5)
       × (scaled 5 D ≡ 0 ∷ 4 ∷ 0 ∷ 3 ∷ 2 ∷ 3 ∷ [])
-  -- and it is refused, as all is that a session refuses
+  -- what a session refuses, those two sheets among it
   pub refusals : Refusals
