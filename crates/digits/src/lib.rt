@@ -9,7 +9,7 @@ pub mod rows;
 pub mod tape;
 
 pub use element::Element;
-pub use limits::check_limits;
+pub use limits::{check_below, check_equal, check_limits};
 pub use product::{dot, vector_product};
 pub use rows::{add_at, check_digit, check_digits, check_length, check_row, digit_at, first_above};
 pub use tape::draw;
