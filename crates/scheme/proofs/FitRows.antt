@@ -1,8 +1,9 @@
 -- The rows of a lookup are fit: both queries, a zeroed sheet, and a sheet that a host answered into.
-use Rattle.std.proofs.Common.{◌≡◌, ℕ, ◌+◌, ◌≤◌, List, drop, sym, ◌∙◌, length-drop, arith}
-use Rattle.std.proofs.lemmas.List.{length-take-le}
-use Rattle.digits.specs.Rows.{at, Digits}
+use Rattle.std.proofs.Common.{◌≡◌, ℕ, ◌+◌, ◌<◌, ◌≤◌, List, drop, replicate, sym, ◌∙◌, length-drop, arith}
+use Rattle.std.proofs.lemmas.List.{ext_get_or, get_or-replicate, length-replicate, length-take-le}
+use Rattle.digits.specs.Rows.{at, row, Digits}
 use Rattle.digits.proofs.DigitRows.{remainders, digits-take, digits-drop}
+use Rattle.digits.proofs.RowLaws.{length-row, at_row}
 use Rattle.family.specs.Vectors.{Vectors}
 use Rattle.scheme.specs.Answers.{Query, Sheet, answer, answered, sheet_size, zero_sheet}
 use Rattle.scheme.specs.Queries.{second_query}
@@ -20,6 +21,12 @@ second_fit f t z = remainders f.dim (λ c. at z c + f.v t c)
 
 pub zero_fit : (f : Vectors) → Sheet f (zero_sheet f)
 zero_fit f = remainders (sheet_size f.dim) (λ x. 0)
+
+-- a row filled with zeros is the row that has 0 at each place
+pub zeros : (n : ℕ) → replicate n 0 ≡ row n (λ x. 0)
+zeros n =
+    ext_get_or 0 (replicate n 0) (row n (λ x. 0)) (length-replicate n 0 ∙ sym (length-row n (λ x. 0)))
+    (λ i h. let l : i < n = omega (arith, length-replicate {A = ℕ}) in get_or-replicate n i 0 0 l ∙ sym (at_row n (λ x. 0) i l))
 
 -- what was answered to any sheet is a sheet again
 pub answered_fit : (f : Vectors) (a : ℕ → ℕ) (p sheet : List ℕ) → Sheet f (answered f a p sheet)

@@ -1,5 +1,5 @@
 -- What a recovery gives that is handed a family which is not refused and two fit sheets.
-use Rattle.std.proofs.Common.{◌≡◌, ℕ, List, length, Some, None, Ok, ap₂, subst, eq-eqb}
+use Rattle.std.proofs.Common.{◌≡◌, ℕ, List, length, Some, None, Ok, ap, subst, ◌∙◌, eq-eqb}
 use Rattle.std.proofs.lemmas.Bool.{cond-true}
 use Rattle.digits.specs.Refusals.{long_fault}
 use Rattle.digits.proofs.DigitRows.{digits_pass}
@@ -19,10 +19,13 @@ module _ (f : Vectors) (one two : List ℕ) (fit_one : Sheet f one) (fit_two : S
       (none_or_else _ _ (long two fit_two)
       (none_or_else _ _ (digits_pass one fit_one.1) (digits_pass two fit_two.1)))
 
-  pub reads : (n k t turn e : ℕ) → family_fault n k f ≡ None → read_entry (found f t turn one two) ≡ Some e → outcome n k f t turn one two ≡ Ok e
+  -- the entry, or the fault that the sheets are at odds
+  pub weighs : (n k t turn : ℕ) → family_fault n k f ≡ None → outcome n k f t turn one two ≡ read_or_odds t (read_entry (found f t turn one two))
   unfolding outcome
-  reads n k t turn e family read =
-      ap₂ (λ fault r. unless fault (read_or_odds t r))
+  weighs n k t turn family =
+      ap (λ fault. unless fault (read_or_odds t (read_entry (found f t turn one two))))
       (none_or_else (family_fault n k f) (sheets_fault k one two) family
       (subst (λ d. sheets_fault d one two ≡ None) (family_is n k f family).1 sheets_pass))
-      read
+
+  pub reads : (n k t turn e : ℕ) → family_fault n k f ≡ None → read_entry (found f t turn one two) ≡ Some e → outcome n k f t turn one two ≡ Ok e
+  reads n k t turn e family read = weighs n k t turn family ∙ ap (read_or_odds t) read
