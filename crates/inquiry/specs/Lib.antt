@@ -1,0 +1,6 @@
+pub mod Grammar
+pub mod ByteRows
+pub mod Inquiries
+pub mod Text
+pub mod Findings
+pub mod Replies

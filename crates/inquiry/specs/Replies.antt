@@ -1,0 +1,74 @@
+-- Replies: what the program prints for an input.
+use Rattle.std.specs.Prelude.{ℕ, ◌+◌, ◌*◌, List, Some, None, Option, replicate}
+use Rattle.faults.specs.declared.Fault.{Fault}
+use Rattle.faults.specs.Faults.{number_of}
+use Rattle.digits.specs.Refusals.{or_else}
+use Rattle.family.specs.Vectors.{Vectors}
+use Rattle.scheme.specs.Answers.{sheet_size}
+use Rattle.scheme.specs.Queries.{second_query}
+use Rattle.scheme.specs.Sessions.{Session, opened, opening_fault, next_digits}
+use Rattle.host.specs.Holdings.{Holding}
+use Rattle.host.specs.Dense.{dense_fault, dense_holding}
+use Rattle.words.specs.Words.{word_vectors, words_fault}
+use Rattle.rounds.specs.Lent.{Contents}
+use Rattle.rounds.specs.Rounds.{Round, round_fault}
+use Rattle.inquiry.specs.Grammar.{Parts, inquiry_of}
+use Rattle.inquiry.specs.Text.{Findings, findings_text, refusal_text}
+
+-- the family of words that an inquiry names
+abbrev pub family_of : Parts → Vectors
+family_of p = word_vectors p.letters p.alphabet
+
+-- A round with one host as both. Rows are overwritten by it: here they are fresh, of the lengths that it takes.
+abbrev pub fresh_rows : ℕ → Contents
+fresh_rows k = record {
+  first_query = replicate k 0;
+  second_query = replicate k 0;
+  first_sheet = replicate (sheet_size k) 0;
+  second_sheet = replicate (sheet_size k) 0;
+}
+
+abbrev pub round_with : Session → Vectors → Holding → ℕ → Round
+round_with session family host position = record {
+  session = session;
+  family = family;
+  first_host = host;
+  second_host = host;
+  position = position;
+  rows = fresh_rows family.dim;
+}
+
+-- the round of an inquiry: a session opened on its tape, and the host of its table
+abbrev pub round_of : Parts → Round
+round_of p = round_with (opened (family_of p) p.tape) (family_of p) (dense_holding p.table) p.position
+
+-- why an inquiry is refused, in the order of the calls: the family, the table, the tape, the round
+unfoldable pub inquiry_fault : Parts → Option Fault
+inquiry_fault p =
+    or_else (words_fault p.letters p.alphabet)
+    (or_else (dense_fault p.table) (or_else (opening_fault p.tape) (round_fault (round_of p))))
+
+-- What a round finds: the first query is the next tape digits, the second is told from them, and the entry is the table's at the
+-- position.
+abbrev pub findings_in : Round → Findings
+findings_in r = record {
+  position = r.position;
+  first = next_digits r.session;
+  second = second_query r.family r.position (next_digits r.session);
+  carried = 14 * r.family.dim + 12;
+  entry = r.first_host.table r.position;
+}
+
+-- the text of a refusal, or of what was found where nothing is amiss
+abbrev pub answer_text : Option Fault → Findings → List ℕ
+answer_text None found = findings_text found
+answer_text (Some fault) found = refusal_text (number_of fault.cause)
+
+-- an input of another form is refused by number 1, as a row of another length is
+abbrev pub reply_to : Option Parts → List ℕ
+reply_to None = refusal_text 1
+reply_to (Some p) = answer_text (inquiry_fault p) (findings_in (round_of p))
+
+-- what the program prints for the bytes that it reads
+unfoldable pub reply : List ℕ → List ℕ
+reply input = reply_to (inquiry_of input)
