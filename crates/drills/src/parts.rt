@@ -1,0 +1,83 @@
+// Hosts as words write them: single hosts with a plus between two, each with colons between its parts.
+use crate::hosts::Any;
+use crate::single::Single;
+use crate::stop::Stop;
+use crate::text::{bytes_of, number};
+use host::{ChangeHost, Dense, Sum};
+use std::alloc::{AllocError, Global};
+
+// What a single host is made of: its table as a row, or a change host.
+#[derive(Drop)]
+pub(crate) enum Part {
+    Row(Vec<u8>),
+    Changes(ChangeHost),
+}
+
+// The parts that a word writes.
+pub(crate) fn parts_of(heap: Global, word: &str) -> Result<Vec<Part>, Stop> {
+    word.split('+')
+        .map(|single| part_of(heap, single))
+        .try_collect(heap)
+}
+
+// One part. It is refused here already, so that the first of several counts.
+fn part_of(heap: Global, word: &str) -> Result<Part, Stop> {
+    let words: Vec<&str> = word.split(':').collect(heap)?;
+    match words.as_slice() {
+        ["d", row] => dense(bytes_of(heap, row)?),
+        ["r", n, row] => dense(repeated(heap, &bytes_of(heap, row)?, number(n))?),
+        ["c", n] => Ok(Part::Changes(ChangeHost::new(number(n))?)),
+        ["c", n, settings] => {
+            let mut host = ChangeHost::new(number(n))?;
+            for setting in settings.split(',') {
+                set(&mut host, setting)?;
+            }
+            Ok(Part::Changes(host))
+        }
+        _ => Err(Stop::Unclear("no such host")),
+    }
+}
+
+fn dense(row: Vec<u8>) -> Result<Part, Stop> {
+    let _ = Dense::new(&row)?;
+    Ok(Part::Row(row))
+}
+
+// The row of n bytes that repeats a row.
+fn repeated(heap: Global, row: &[u8], n: usize) -> Result<Vec<u8>, AllocError> {
+    row.iter().copied().cycle().take(n).collect(heap)
+}
+
+// Sets a change, written as a position, `=` and a digit. With no digit it is 255.
+pub(crate) fn set(host: &mut ChangeHost, setting: &str) -> Result<(), Stop> {
+    let (position, digit) = setting.split_once('=').unwrap_or((setting, ""));
+    Ok(host.set(number(position), number(digit))?)
+}
+
+impl Part {
+    // The host of this part.
+    fn host(&self) -> Result<Single<'_>, Stop> {
+        match self {
+            Part::Row(row) => Ok(Single::Dense(Dense::new(row)?)),
+            Part::Changes(host) => Ok(Single::Change(*host)),
+        }
+    }
+}
+
+// The host of some parts: one of them, or their sum.
+pub(crate) fn host_of(parts: &[Part]) -> Result<Any<'_>, Stop> {
+    match parts {
+        [one] => Ok(Any::One(one.host()?)),
+        [one, two] => Ok(Any::Two(Sum::new(one.host()?, two.host()?)?)),
+        [one, two, three] => {
+            let first = Sum::new(one.host()?, two.host()?)?;
+            Ok(Any::Three(Sum::new(first, three.host()?)?))
+        }
+        [one, two, three, four] => {
+            let first = Sum::new(one.host()?, two.host()?)?;
+            let second = Sum::new(three.host()?, four.host()?)?;
+            Ok(Any::Four(Sum::new(first, second)?))
+        }
+        _ => Err(Stop::Unclear("no such host")),
+    }
+}
