@@ -20,7 +20,7 @@ sys.dont_write_bytecode = True  # no folder of compiled files beside the tools
 
 from bench import Bench, family
 from lookups import Session, dense, looked_up, whole_round
-from trials import Refused, book_of, dot, flat_book, hexed, some_row
+from trials import Refused, book_of, dot, flat_book, hexed, keep, some_row
 
 
 def pairs_of(faults):
@@ -599,13 +599,7 @@ def main():
     options = parser.parse_args()
     bench = run(options.seed)
     texts = {"stdin": "\n".join(bench.lines) + "\n", "stdout": "\n".join(bench.answers) + "\n"}
-    folder = Path("crates/drills")
-    for name, text in texts.items():
-        if options.check:
-            if (folder / name).read_text() != text:
-                sys.exit(f"{folder / name} is not what this program would write")
-        else:
-            (folder / name).write_text(text)
+    keep(Path("crates/drills"), texts, options.check)
     print(f"{len(bench.answers)} answers")
     if options.check:
         print(f"{learning(random.Random(options.seed))} sessions that tell a host nothing")

@@ -28,20 +28,22 @@ def applied(edit, top):
     return path, text
 
 
-def refused(edit):
-    name = edit.split(os.sep)[1]
-    with tempfile.TemporaryDirectory() as top:
-        shutil.copy("crates.txt", top)
-        shutil.copytree("crates", os.path.join(top, "crates"), ignore=shutil.ignore_patterns("out", "must-fail", "moves"))
-        crate = os.path.join(top, "crates", name)
-        path, text = applied(edit, crate)
-        open(path, "w").write(text)
-        run = subprocess.run(["rt", "check"], cwd=crate, capture_output=True, text=True)
-        return run.returncode != 0 and REFUSAL in run.stdout + run.stderr
+def refused(edit, top):
+    crate = os.path.join(top, "crates", edit.split(os.sep)[1])
+    path, text = applied(edit, crate)
+    before = open(path).read()
+    open(path, "w").write(text)
+    run = subprocess.run(["rt", "check"], cwd=crate, capture_output=True, text=True)
+    open(path, "w").write(before)
+    return run.returncode != 0 and REFUSAL in run.stdout + run.stderr
 
 
 edits = sorted(glob.glob("crates/*/moves/*.edit"))
-wrong = [edit for edit in edits if not refused(edit)]
+with tempfile.TemporaryDirectory() as top:
+    # one copy for all, so that the crates below are proved once
+    shutil.copy("crates.txt", top)
+    shutil.copytree("crates", os.path.join(top, "crates"), ignore=shutil.ignore_patterns("out", "must-fail", "moves"))
+    wrong = [edit for edit in edits if not refused(edit, top)]
 for edit in wrong:
     print(f"{edit}: not refused as the use of a moved value")
 print(f"{len(edits) - len(wrong)} of {len(edits)} misuses of a moved value refused")

@@ -540,6 +540,16 @@ def cases(rng):
     yield from odd_lines()
 
 
+def keep(folder, texts, check):
+    """Writes texts into files of a folder, or, to check, compares them with what the files hold."""
+    for name, text in texts.items():
+        if check:
+            if (folder / name).read_text() != text:
+                sys.exit(f"{folder / name} is not what this program would write")
+        else:
+            (folder / name).write_text(text)
+
+
 def main():
     parser = argparse.ArgumentParser(description=__doc__.splitlines()[0])
     parser.add_argument("--seed", type=int, default=1)
@@ -557,13 +567,7 @@ def main():
         except Refused as refusal:
             answers.append(str(refusal))
     texts = {"stdin": "\n".join(lines) + "\n", "stdout": "\n".join(answers) + "\n"}
-    folder = Path("crates/trials")
-    for name, text in texts.items():
-        if options.check:
-            if (folder / name).read_text() != text:
-                sys.exit(f"{folder / name} is not what this program would write")
-        else:
-            (folder / name).write_text(text)
+    keep(Path("crates/trials"), texts, options.check)
     print(f"{len(lines)} cases")
 
 
