@@ -1,4 +1,6 @@
 pub mod Vectors
+pub mod Added
+pub mod ElementProducts
 pub mod Spread
 pub mod Units
 pub mod FirstParts

@@ -2,10 +2,12 @@
 ghost use Rattle.std.specs.Prelude.{◌≡◌};
 ghost use Rattle.digits.specs.Rows.{at};
 ghost use Rattle.digits.specs.Sums.{product};
+ghost use Rattle.family.specs.Added.{added};
+ghost use Rattle.family.specs.ElementProducts.{element_product};
 ghost use Rattle.family.specs.Spread.{spread};
 ghost use Rattle.family.specs.Vectors.{Vectors, MatchingFamily};
 
-use digits::add_at;
+use digits::{Element, add_at};
 
 // A matching family: for each position i below a count, two vectors of digits u(i) and v(i) of one dimension, such
 // that u(i) times v(i) is 0 and u(i) times v(j) is 1, 3 or 4 for all i other than j. (The usual name is a matching
@@ -29,6 +31,18 @@ pub trait Family {
     // Digit c of v(i).
     fn v(&self, i: usize, c: usize) -> u8
         ensures { result ≡ (vectors self.now).v i c };
+
+    // Adds v(i) to a row, digit by digit. Where v(i) is 0 nothing changes; digits past the row's end are passed over.
+    fn add_v(&self, i: usize, row: &mut [u8])
+        ensures { row.new ≡ added ((vectors self.now).v i) row.old }
+    {
+        for c in 0..row.len() {
+            let d = self.v(i, c);
+            if d != 0 {
+                add_at(row, c, u32::from(d));
+            }
+        }
+    }
 
     // The product of u(i) and a row; digits past the row's end count as 0.
     fn u_product(&self, i: usize, row: &[u8]) -> u8
@@ -54,6 +68,29 @@ pub trait Family {
                 add_at(elements, 6 * c + e % 6, u32::from(amount) * u32::from(d));
             }
         }
+    }
+
+    // The product of v(i) and the elements of all coordinates, which stand one after the other: the sum of v(i)c times the element
+    // of c. Digits past the row's end count as 0.
+    fn v_product(&self, i: usize, elements: &[u8]) -> Element
+        ensures { result.digits ≡ element_product (vectors self.now).dim ((vectors self.now).v i) elements.now }
+    {
+        let mut sum = Element::zero();
+        for c in 0..self.dimension() {
+            sum = sum + Element::read_at(elements, 6 * c).scaled(self.v(i, c));
+        }
+        sum
+    }
+
+    // Spreads the amount with the product of u(i) and a query as the exponent, and tells that product. A host wants both for
+    // each of its entries, and some kinds of family find them together faster than one after the other.
+    fn spread_by_product(&self, i: usize, amount: u8, query: &[u8], elements: &mut [u8]) -> u8
+        ensures product { result ≡ product (vectors self.now).dim ((vectors self.now).u i) (at query.now) }
+        ensures spread { elements.new ≡ spread ((vectors self.now).u i) amount result elements.old }
+    {
+        let e = self.u_product(i, query);
+        self.spread(i, amount, usize::from(e), elements);
+        e
     }
 
     ghost matching: { (f : Self) → MatchingFamily (vectors f) };

@@ -6,7 +6,7 @@ ghost use Rattle.family.specs.FirstParts.{first_part};
 ghost use Rattle.family.specs.FirstPartsLemmas.{first_family};
 
 use crate::family::Family;
-use digits::check_limits;
+use digits::{Element, check_limits};
 use faults::{Fault, Layer};
 
 // The first positions of a family, with the same dimension.
@@ -60,6 +60,12 @@ impl<F: Family> Family for FirstPart<F> {
         }
     }
 
+    fn add_v(&self, i: usize, row: &mut [u8]) {
+        if i < self.count {
+            self.family.add_v(i, row);
+        }
+    }
+
     fn u_product(&self, i: usize, row: &[u8]) -> u8 {
         if i < self.count {
             self.family.u_product(i, row)
@@ -68,9 +74,25 @@ impl<F: Family> Family for FirstPart<F> {
         }
     }
 
+    fn v_product(&self, i: usize, elements: &[u8]) -> Element {
+        if i < self.count {
+            self.family.v_product(i, elements)
+        } else {
+            Element::zero()
+        }
+    }
+
     fn spread(&self, i: usize, amount: u8, e: usize, elements: &mut [u8]) {
         if i < self.count {
             self.family.spread(i, amount, e, elements);
+        }
+    }
+
+    fn spread_by_product(&self, i: usize, amount: u8, query: &[u8], elements: &mut [u8]) -> u8 {
+        if i < self.count {
+            self.family.spread_by_product(i, amount, query, elements)
+        } else {
+            0
         }
     }
 }

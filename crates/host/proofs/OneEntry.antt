@@ -47,34 +47,37 @@ module _ (f : Vectors) (i d : ℕ) (p : List ℕ) (below : i < f.count) where
       ∙ only (λ j. single i d j * u j) (λ j ne. ap (λ n. n * u j) (others j ne) ∙ zero-mul (u j)) (x % 6)
       ∙ ap (λ n. n * u i * same (exponent f p i) (x % 6) % 6) (kept d i i refl)
 
-  -- An amount added at place e of the value, and then spread over the elements, is what this table answers.
-  module _ (xs ys els : List ℕ) (e : ℕ) (fit : Sheet f xs) (power : e ≡ exponent f p i)
-      (added : ys ≡ set xs e ((at xs e + d) % 6)) (spread_is : els ≡ spread (f.u i) d e (drop 6 ys)) where
-    long : length ys ≡ sheet_size f.dim
-    long = ap length added ∙ length-set xs e ((at xs e + d) % 6) ∙ fit.0
+  -- An amount spread over the elements with the exponent e, and then added at place e of the value, is what this table answers.
+  module _ (xs els : List ℕ) (e : ℕ) (fit : Sheet f xs) (power : e ≡ exponent f p i) (spread_is : els ≡ spread (f.u i) d e (drop 6 xs)) where
+    abbrev spread_over : List ℕ
+    spread_over = take 6 xs ++ els
 
-    value_place : (x : ℕ) → x < 6 → at ys x ≡ (at xs x + answer f (single i d) p x) % 6
+    els_long : length els ≡ length xs - 6
+    unfolding spread
+    els_long = ap length spread_is ∙ length-row (length (drop 6 xs)) (spread_at (f.u i) d e (drop 6 xs)) ∙ length-drop 6 xs
+
+    long : length spread_over ≡ sheet_size f.dim
+    long = omega (arith, length-append (take 6 xs) els, length-take 6 xs, els_long, fit.0)
+
+    -- the value before the amount was added
+    before : (x : ℕ) → x < 6 → at spread_over x ≡ at xs x
+    before x h = get_or_append_left (take 6 xs) els 0 x (omega (arith, length-take 6 xs, fit.0)) ∙ get_or-take 6 xs x 0 h
+
+    value_place : (x : ℕ) → x < 6 → at (set spread_over e ((at spread_over e + d) % 6)) x ≡ (at xs x + answer f (single i d) p x) % 6
     value_place x h =
-        ap (λ zs. at zs x) added
-        ∙ elim (cases_eq x e) [
+        elim (cases_eq x e) [
           | inl here ↦
-              ap (at (set xs e ((at xs e + d) % 6))) here
-              ∙ get_or-set_same xs e ((at xs e + d) % 6) 0 (omega (arith, fit.0))
-              ∙ omega (arith, ap (at xs) here, in_value x h, kept d (exponent f p i) x (sym power ∙ sym here))
+              ap (at (set spread_over e ((at spread_over e + d) % 6))) here
+              ∙ get_or-set_same spread_over e ((at spread_over e + d) % 6) 0 (omega (arith, long))
+              ∙ omega (arith, before e (omega arith), ap (at xs) here, in_value x h, kept d (exponent f p i) x (sym power ∙ sym here))
           | inr other ↦
-              get_or-set_other xs e x ((at xs e + d) % 6) 0 other
-              ∙ omega (arith, fit.1 x, in_value x h, dropped d (exponent f p i) x (λ k. other (sym k ∙ sym power)))
+              get_or-set_other spread_over e x ((at spread_over e + d) % 6) 0 other
+              ∙ omega (arith, before x h, fit.1 x, in_value x h, dropped d (exponent f p i) x (λ k. other (sym k ∙ sym power)))
         ]
 
-    els_long : length els ≡ length ys - 6
-    unfolding spread
-    els_long = ap length spread_is ∙ length-row (length (drop 6 ys)) (spread_at (f.u i) d e (drop 6 ys)) ∙ length-drop 6 ys
-
     -- the elements before they were spread over
-    before : (x : ℕ) → 6 ≤ x → at (drop 6 ys) (x - 6) ≡ at xs x
-    before x h =
-        get_or-drop 6 ys (x - 6) 0 ∙ ap (at ys) (omega arith) ∙ ap (λ zs. at zs x) added
-        ∙ get_or-set_other xs e x ((at xs e + d) % 6) 0 (omega arith)
+    elements_before : (x : ℕ) → 6 ≤ x → at (drop 6 xs) (x - 6) ≡ at xs x
+    elements_before x h = get_or-drop 6 xs (x - 6) 0 ∙ ap (at xs) (omega arith)
 
     element_place : (x : ℕ) → 6 ≤ x → x < sheet_size f.dim → at els (x - 6) ≡ (at xs x + answer f (single i d) p x) % 6
     unfolding spread
@@ -83,33 +86,34 @@ module _ (f : Vectors) (i d : ℕ) (p : List ℕ) (below : i < f.count) where
         let same_coordinate : (x - 6) / 6 ≡ x / 6 - 1 = omega arith in
         let amount : ℕ = d * u (x / 6 - 1) in
         ap (λ zs. at zs (x - 6)) spread_is
-        ∙ at_row (length (drop 6 ys)) (spread_at u d e (drop 6 ys)) (x - 6) (omega (arith, length-drop 6 ys, long))
+        ∙ at_row (length (drop 6 xs)) (spread_at u d e (drop 6 xs)) (x - 6) (omega (arith, length-drop 6 xs, fit.0))
         ∙ elim (cases_eq ((x - 6) % 6) (e % 6)) [
           | inl here ↦
               elim (cases_eq (u ((x - 6) / 6)) 0) [
                 | inl none ↦
-                    spread_zero u d e (x - 6) (drop 6 ys) none
+                    spread_zero u d e (x - 6) (drop 6 xs) none
                     ∙ (let nothing = ap (λ c. d * c * same (exponent f p i) (x % 6)) (sym (ap u same_coordinate) ∙ none) in
-                    omega (arith, before x h, fit.1 x, in_element x h))
+                    omega (arith, elements_before x h, fit.1 x, in_element x h))
                 | inr some ↦
-                    spread_here u d e (x - 6) (drop 6 ys) here some
+                    spread_here u d e (x - 6) (drop 6 xs) here some
                     ∙ (let coordinate = ap (λ c. d * u c) same_coordinate in
-                    omega (arith, before x h, in_element x h, kept amount (exponent f p i) (x % 6) (omega arith)))
+                    omega (arith, elements_before x h, in_element x h, kept amount (exponent f p i) (x % 6) (omega arith)))
               ]
           | inr other ↦
-              spread_other u d e (x - 6) (drop 6 ys) other
-              ∙ omega (arith, before x h, fit.1 x, in_element x h, dropped amount (exponent f p i) (x % 6) (λ k. other (omega arith)))
+              spread_other u d e (x - 6) (drop 6 xs) other
+              ∙ omega (arith, elements_before x h, fit.1 x, in_element x h, dropped amount (exponent f p i) (x % 6) (λ k. other (omega arith)))
         ]
 
-    pub entry_added : take 6 ys ++ (els ++ drop (length ys - 6) (drop 6 ys)) ≡ answered f (single i d) p xs
+    pub entry_added : (ys : List ℕ) → ys ≡ take 6 xs ++ (els ++ drop (length xs - 6) (drop 6 xs)) →
+        set ys e ((at ys e + d) % 6) ≡ answered f (single i d) p xs
     unfolding answered
-    entry_added =
-        ap (λ zs. take 6 ys ++ zs) (nothing_behind 6 ys els)
-        ∙ fill_by_all (λ x. (at xs x + answer f (single i d) p x) % 6) (take 6 ys ++ els) (sheet_size f.dim) 0
-        (omega (arith, length-append (take 6 ys) els, length-take 6 ys, els_long, long))
+    entry_added ys is =
+        ap (λ zs. set zs e ((at zs e + d) % 6)) (is ∙ ap (λ zs. take 6 xs ++ zs) (nothing_behind 6 xs els))
+        ∙ fill_by_all (λ x. (at xs x + answer f (single i d) p x) % 6) (set spread_over e ((at spread_over e + d) % 6)) (sheet_size f.dim) 0
+        (length-set spread_over e ((at spread_over e + d) % 6) ∙ long)
         (λ x l. elim (cases_lt x 6) [
-          | inl b ↦
-              get_or_append_left (take 6 ys) els 0 x (omega (arith, length-take 6 ys, long))
-              ∙ get_or-take 6 ys x 0 b ∙ value_place x b
-          | inr b ↦ get_or-append_right (take 6 ys) els 6 x 0 (omega (arith, length-take 6 ys, long)) b ∙ element_place x b l
+          | inl b ↦ value_place x b
+          | inr b ↦
+              get_or-set_other spread_over e x ((at spread_over e + d) % 6) 0 (omega arith)
+              ∙ get_or-append_right (take 6 xs) els 6 x 0 (omega (arith, length-take 6 xs, fit.0)) b ∙ element_place x b l
         ])

@@ -37,7 +37,6 @@ pub(crate) fn add_entry<F: Family>(family: &F, i: usize, amount: u8, query: &[u8
     requires fit { Sheet (F.Family.vectors family.now) sheet.old }
     ensures { sheet.new ≡ answered (F.Family.vectors family.now) (single i amount) query.now sheet.old }
 {
-    let e = usize::from(family.u_product(i, query));
+    let e = usize::from(family.spread_by_product(i, amount, query, &mut sheet[6..]));
     add_at(sheet, e, u32::from(amount));
-    family.spread(i, amount, e, &mut sheet[6..]);
 }

@@ -1,3 +1,5 @@
+pub mod Adding
+pub mod Multiplying
 pub mod OwnCoordinates
 pub mod Finding
 pub mod Lettering
@@ -5,3 +7,4 @@ pub mod Weighing
 pub mod Telling
 pub mod Spreading
 pub mod FamilyNumbers
+pub mod Dividing

@@ -1,5 +1,5 @@
--- The digits of u by the position's own coordinates.
-use Rattle.std.proofs.Common.{◌≡◌, ℕ, ◌%◌, ◌^◌, ◌<◌, ◌≤◌, Bool, true, false, ◌==◌, List, [], length, sum_by, sym, refl, ap, ◌∙◌, inl, inr, eqb-true, eq-eqb, arith}
+-- The digits of u and v by the position's own coordinates.
+use Rattle.std.proofs.Common.{◌≡◌, ℕ, ◌*◌, ◌%◌, ◌^◌, ◌<◌, ◌≤◌, Bool, true, false, ◌==◌, List, [], length, sum_by, sym, refl, ap, ◌∙◌, inl, inr, eqb-true, eq-eqb, one-mul, zero-mul, arith}
 use Rattle.std.specs.List.{IsAnyAnswer}
 use Rattle.std.proofs.lemmas.Bool.{cases_lt, false≢true, lt-ltb, le-ltb, cond-true, cond-false}
 use Rattle.digits.specs.Rows.{at}
@@ -7,10 +7,11 @@ use Rattle.digits.specs.Sums.{product}
 use Rattle.digits.proofs.Sums.{product_zero}
 use Rattle.words.specs.Own.{own_coordinates, own_or_none}
 use Rattle.words.specs.Places.{place_sets}
-use Rattle.words.specs.Words.{letter, word_dim, word_digit}
+use Rattle.words.specs.Words.{letter, weight, size_at, word_dim, word_digit}
 use Rattle.words.specs.Limits.{width_sets, dim_narrow}
 use Rattle.words.specs.Matching.{digit_at, digit_past, own_product}
 use Rattle.words.proofs.OwnCoordinates.{length_own, own_most, own_rising, own_found, own_missing}
+use Rattle.words.proofs.Weighing.{digit_weigh}
 use Rattle.words.specs.Readings.{letter_lt}
 
 -- a list of a position's own coordinates
@@ -62,6 +63,17 @@ module _ (h q t : ℕ) (pos : 0 < q) (own : List ℕ) (is : own ≡ own_or_none 
             ∙ own_missing q (letter h q t) (λ p. letter_lt h q t p pos) (place_sets h) c (λ k b e. none k (omega arith) (own_at l k ∙ e))
         | inr l ↦ digit_past h q (λ s. 1) t c l
       ]
+
+  -- v is the weight there, and 0 elsewhere
+  pub v_found : (k : ℕ) → k < length own → word_digit h q (weight h) t (at own k) ≡ weight h (size_at h q (at own k))
+  v_found k b =
+      digit_weigh h q t (at own k)
+      ∙ ap (λ a. a * weight h (size_at h q (at own k))) (u_found (at own k) k b refl) ∙ one-mul (weight h (size_at h q (at own k)))
+
+  pub v_missing : (c : ℕ) → ((k : ℕ) → k < length own → at own k ≡ c → ⊥) → word_digit h q (weight h) t c ≡ 0
+  v_missing c none =
+      digit_weigh h q t c
+      ∙ ap (λ a. a * weight h (size_at h q c)) (u_missing c none) ∙ zero-mul (weight h (size_at h q c))
 
   -- whether a coordinate is among the own ones
   pub u_told : (c : ℕ) (b : Bool) (r : ℕ) → IsAnyAnswer (λ y x. (y == c) ≡ x) own b → (b ≡ true → r ≡ 1) → (b ≡ false → r ≡ 0) →

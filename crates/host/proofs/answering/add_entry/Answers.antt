@@ -1,4 +1,4 @@
-use Rattle.std.proofs.Common.{◌≡◌, ℕ, ◌+◌, ◌%◌, List, drop, set}
+use Rattle.std.proofs.Common.{◌≡◌, ℕ, ◌+◌, ◌-◌, ◌%◌, ◌++◌, List, length, take, drop, set, refl, ap, ◌∙◌}
 use Rattle.std.proofs.lemmas.List.{take_rest}
 use Rattle.digits.specs.Rows.{at}
 use Rattle.family.specs.Spread.{spread}
@@ -11,12 +11,12 @@ pub returns : goal.returns
 returns g c =
     let f : Vectors = g.F.Family.vectors c.args.family.now in
     let xs : List ℕ = c.args.sheet.now in
-    let ys : List ℕ = c.add_at.new.row in
-    let els : List ℕ = c.spread.new.elements in
+    let els : List ℕ = c.spread_by_product.new.elements in
     let e : ℕ = c.from-e.result in
     let power : e ≡ exponent f c.args.query.now c.args.i = cc in
-    let added : ys ≡ set xs e ((at xs e + c.args.amount) % 6) =
-    cc in
-    let spread_is : els ≡ spread (f.u c.args.i) c.args.amount e (drop 6 ys) =
-    (let rest = take_rest ys 6 in cc) in
-    entry_added f c.args.i c.args.amount c.args.query.now c.requires.below xs ys els e c.requires.fit power added spread_is
+    let spread_is : els ≡ spread (f.u c.args.i) c.args.amount e (drop 6 xs) =
+    (let rest = take_rest xs 6 in cc) in
+    let ys : List ℕ = take 6 xs ++ (els ++ drop (length xs - 6) (drop 6 xs)) in
+    let added : c.add_at.new.row ≡ set ys e ((at ys e + c.args.amount) % 6) =
+    c.add_at.ensures ∙ ap (λ a. set ys e ((at ys e + a) % 6)) c.from.ensures in
+    added ∙ entry_added f c.args.i c.args.amount c.args.query.now c.requires.below xs els e c.requires.fit power spread_is ys refl
