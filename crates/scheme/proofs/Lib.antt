@@ -3,6 +3,7 @@ pub mod Sheets
 pub mod AnswerSums
 pub mod Polynomials
 pub mod Shares
+pub mod Elements
 pub mod Equations
 pub mod Solving
 pub mod TwoSheets

@@ -20,11 +20,8 @@ pub fn value(sheet: &[u8]) -> Element
 pub fn slope<F: Family>(family: &F, t: usize, sheet: &[u8]) -> Element
     ensures { result.digits ≡ slope (F.Family.vectors family.now) t sheet.now }
 {
-    let mut sum = Element::zero();
-    for c in 0..family.dimension() {
-        sum = sum + Element::read_at(sheet, 6 * (1 + c)).scaled(family.v(t, c));
-    }
-    sum
+    // past the element of the value
+    family.v_product(t, sheet.get(6..).unwrap_or(&[]))
 }
 
 // W of two sheets, the first host's and the second's, for position t.

@@ -1,2 +1,3 @@
+pub mod Copies
 pub mod Stepping
 pub mod Sheets

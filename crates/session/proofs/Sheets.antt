@@ -7,7 +7,7 @@ use Rattle.family.specs.Vectors.{Vectors}
 use Rattle.scheme.specs.Recovery.{found, read_entry}
 use Rattle.scheme.specs.Sessions.{family_fault, sheets_fault, read_or_odds, unless, outcome}
 
-own_family : (f : Vectors) → family_fault f.count f.dim f ≡ None
+pub own_family : (f : Vectors) → family_fault f.count f.dim f ≡ None
 own_family f =
     none_or_else _ _ (cond-true _ None _ (eq-eqb f.count f.count refl)) (cond-true _ None _ (eq-eqb f.dim f.dim refl))
 

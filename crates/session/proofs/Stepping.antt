@@ -1,23 +1,41 @@
 -- What a call of the code did is a step of the law of all runs.
-use Rattle.std.proofs.Common.{◌≡◌, ℕ, ◌+◌, ◌%◌, List, length, drop, None, Result, arith, length-take, length-drop}
+use Rattle.std.proofs.Common.{◌≡◌, ℕ, ◌+◌, ◌%◌, List, length, drop, None, Result, eqb, eqb-true, refl, sym, ap, ap₂, ◌∙◌, arith, length-take, length-drop}
+use Rattle.std.proofs.lemmas.List.FromFn.{fill_by_all}
 use Rattle.faults.specs.declared.Fault.{Fault}
 use Rattle.digits.specs.Rows.{at, row}
+use Rattle.digits.specs.Refusals.{width_fault}
+use Rattle.digits.proofs.Passing.{passed, or_else_none}
 use Rattle.family.specs.Vectors.{Vectors}
 use Rattle.scheme.proofs.Taken.{taken}
 use Rattle.scheme.specs.Queries.{second_query, shift}
-use Rattle.scheme.specs.Sessions.{Session, digits_left, next_digits, request_fault, outcome, after_request, after_recovery, after_loss}
+use Rattle.scheme.specs.Sessions.{Session, digits_left, next_digits, family_fault, request_fault, outcome, after_request, after_recovery, after_loss}
 use Rattle.scheme.specs.Runs.{State, ready, waiting, request, recover, abandon, asked, recovered, abandoned, Step, takes, recovers, abandons}
 
--- what a request writes whose tests have passed: a copy of the first query, displaced, is the second
-pub asks : (s : Session) (f : Vectors) (t l m : ℕ) (copy : List ℕ) →
-    request_fault s.count s.dim (digits_left s) f t l m ≡ None →
-    copy ≡ next_digits s → row (length copy) (λ c. (at copy c + f.v t c) % 6) ≡ second_query f t (next_digits s)
-unfolding second_query
-asks s f t l m copy none same =
+-- the lengths of the rows of a request whose tests have passed
+pub widths : (n k left : ℕ) (f : Vectors) (t l m : ℕ) → request_fault n k left f t l m ≡ None → (l ≡ k) × (m ≡ k)
+widths n k left f t l m e =
+    let (family, rest) = or_else_none (family_fault n k f) _ e in
+    let (first, more) = or_else_none (width_fault k l) _ rest in
+    let (second, last) = or_else_none (width_fault k m) _ more in
+    (eqb-true l k (passed (eqb l k) _ first), eqb-true m k (passed (eqb m k) _ second))
+
+-- what such a request writes: as many tape digits as a query has are the next ones, and displaced they are the second query
+pub asks_first : (s : Session) (f : Vectors) (t l m : ℕ) (z : List ℕ) → request_fault s.count s.dim (digits_left s) f t l m ≡ None →
+    z ≡ next_digits s → row l (at z) ≡ next_digits s
+asks_first s f t l m z none is =
     let fits = taken s.count s.dim (digits_left s) f t l m none in
     let left = drop s.place s.tape in
-    let long : length (next_digits s) ≡ f.dim = omega (arith, fits.dim_is, fits.room, length-take s.dim left, length-drop s.place s.tape) in
-    rw (same, long)
+    let long : length (next_digits s) ≡ l =
+    omega (arith, fits.room, length-take s.dim left, length-drop s.place s.tape, (widths _ _ _ f t l m none).0) in
+    ap (λ x. row l (at x)) is ∙ sym (fill_by_all (at (next_digits s)) (next_digits s) l 0 long (λ k h. refl))
+
+pub asks_second : (s : Session) (f : Vectors) (t l m : ℕ) (z : List ℕ) → request_fault s.count s.dim (digits_left s) f t l m ≡ None →
+    z ≡ next_digits s → row m (λ c. (at z c + f.v t c) % 6) ≡ second_query f t (next_digits s)
+unfolding second_query
+asks_second s f t l m z none is =
+    let fits = taken s.count s.dim (digits_left s) f t l m none in
+    let wide : m ≡ f.dim = omega (arith, fits.dim_is, (widths _ _ _ f t l m none).1) in
+    ap₂ (λ n x. row n (λ c. (at x c + f.v t c) % 6)) wide is
 
 pub step_taken : (s : Session) (f : Vectors) (t l m : ℕ) (p q : List ℕ) (w : State) →
     request_fault s.count s.dim (digits_left s) f t l m ≡ None →

@@ -6,6 +6,6 @@ pub mod queries;
 pub mod recovering;
 pub mod states;
 
-pub use queries::displace;
+pub use queries::write_queries;
 pub use recovering::read_sheets;
 pub use states::{Counters, Ready, Refused, Waiting};

@@ -1,15 +1,46 @@
 // Queries: what a request writes for the two hosts.
 ghost use Rattle.std.specs.Prelude.{◌≡◌, ◌+◌, ◌%◌, length};
 ghost use Rattle.digits.specs.Rows.{at, row};
+ghost use Rattle.scheme.specs.Queries.{shift};
 
-use digits::add_at;
+use digits::digit_at;
 use family::Family;
 
-// Adds v(t) to a row, digit by digit. The first query so becomes the second.
-pub fn displace<F: Family>(family: &F, t: usize, digits: &mut [u8])
-    ensures { digits.new ≡ row (length digits.old) (λ c. (at digits.old c + (F.Family.vectors family.now).v t c) % 6) }
+// Writes digits over a row, as far as the row goes; where the digits end, zeros.
+fn copy(digits: &[u8], target: &mut [u8])
+    ensures { target.new ≡ row (length target.old) (at digits.now) }
+{
+    for c in 0..target.len() {
+        target[c] = digit_at(digits, c);
+    }
+}
+
+// Takes each byte of a row modulo 6.
+fn reduce(digits: &mut [u8])
+    ensures { digits.new ≡ row (length digits.old) (λ c. at digits.old c % 6) }
 {
     for c in 0..digits.len() {
-        add_at(digits, c, u32::from(family.v(t, c)));
+        digits[c] %= 6;
     }
+}
+
+// Writes the two queries for a position, made with these tape digits, and gives the shift. Past the last tape digit each counts
+// as 0, and what lies past a row's end is not written.
+pub fn write_queries<F: Family>(
+    family: &F,
+    t: usize,
+    digits: &[u8],
+    first: &mut [u8],
+    second: &mut [u8],
+) -> u8
+    ensures first { first.new ≡ row (length first.old) (at digits.now) }
+    ensures second { second.new ≡ row (length second.old) (λ c. (at digits.now c + (F.Family.vectors family.now).v t c) % 6) }
+    ensures shift { result ≡ shift (F.Family.vectors family.now) t digits.now }
+{
+    copy(digits, first);
+    copy(digits, second);
+    // `add_v` leaves alone where v(t) is 0, also a byte above 5
+    reduce(second);
+    family.add_v(t, second);
+    family.u_product(t, digits)
 }

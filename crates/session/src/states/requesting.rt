@@ -4,7 +4,7 @@ ghost use Rattle.scheme.specs.Sessions.{next_digits, family_fault, after_request
 ghost use Rattle.scheme.specs.Queries.{second_query, shift};
 ghost use Rattle.scheme.specs.Runs.{waiting, request, Step};
 
-use crate::queries::displace;
+use crate::queries::write_queries;
 use crate::states::{Lookup, Ready, Refused, Waiting};
 use digits::{check_below, check_length};
 use family::Family;
@@ -73,10 +73,7 @@ impl Ready {
             });
         }
         let Ready { mut kept } = self;
-        first.copy_from_slice(kept.next_digits());
-        second.copy_from_slice(first);
-        displace(family, position, second);
-        let shift = family.u_product(position, first);
+        let shift = write_queries(family, position, kept.next_digits(), first, second);
         kept.advance();
         Ok(Waiting {
             kept,

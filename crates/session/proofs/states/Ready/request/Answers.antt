@@ -4,7 +4,7 @@ use Rattle.scheme.specs.Runs.{waiting, declines}
 use Rattle.scheme.specs.Sessions.{next_digits}
 use Rattle.session.specs.States.{ready_session}
 use Rattle.session.specs.Calls.{refusal}
-use Rattle.session.proofs.Stepping.{asks, step_taken}
+use Rattle.session.proofs.Stepping.{asks_first, asks_second, step_taken}
 use Rattle.session.proofs.states.Ready.request.Goals as goal
 
 pub returns-in-Err-clause-step : goal.returns-in-Err-clause-step
@@ -16,9 +16,10 @@ returns g c =
     let f = g.F.Family.vectors c.args.family.now in
     let t = c.args.position in
     let none : refusal s f t (length c.args.first.now) (length c.args.second.now) ≡ None = search rules in
-    let first : c.copy_from_slice.new.self ≡ next_digits s = search rules in
-    let copy : c.copy_from_slice-2.new.self ≡ next_digits s = cc in
-    let second : c.displace.new.digits ≡ second_query f t (next_digits s) = c.displace.ensures ∙ asks s f t _ _ _ none copy in
-    let turn : c.u_product-shift.result ≡ shift f t (next_digits s) = search rules in
+    let z : c.next_digits.result.now ≡ next_digits s = search rules in
+    let first : c.write_queries-shift.new.first ≡ next_digits s = c.write_queries-shift.ensures.first ∙ asks_first s f t _ _ _ none z in
+    let second : c.write_queries-shift.new.second ≡ second_query f t (next_digits s) =
+    c.write_queries-shift.ensures.second ∙ asks_second s f t _ _ _ none z in
+    let turn : c.write_queries-shift.result ≡ shift f t (next_digits s) = search rules in
     let waits = ap₂ (λ n x. waiting n t x) c.advance.ensures turn in
     record { cases = (none, first, second, waits); step = step_taken s f t _ _ _ _ _ none first second waits; pending = refl }

@@ -1,9 +1,0 @@
-use Rattle.std.proofs.Common.{◌+◌, ◌%◌, arith}
-use Rattle.std.proofs.lemmas.List.FromFn.{fill_by_all}
-use Rattle.digits.specs.Rows.{at}
-use Rattle.session.proofs.queries.displace.Goals as goal
-
-pub returns : goal.returns
-returns g c =
-    fill_by_all (λ k. (at c.args.digits.now k + (g.F.Family.vectors c.args.family.now).v c.args.t k) % 6) c.loop-c.digits _ 0 (omega arith)
-    (λ k l. c.loop-c.invariant.displaced k (omega arith))
