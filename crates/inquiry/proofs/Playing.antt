@@ -56,7 +56,8 @@ abbrev pub ComesTo : Round → Contents → Result Reading Fault → Type 0
 ComesTo r after result =
     MatchResult result
     (λ reading. (round_fault r ≡ None) × (reading ≡ reading_of (findings_in r))
-    × (after.first_query ≡ (findings_in r).first) × (after.second_query ≡ (findings_in r).second))
+    × (after.first_query ≡ (findings_in r).first) × (after.second_query ≡ (findings_in r).second)
+    × (after.first_sheet ≡ (findings_in r).first_sheet) × (after.second_sheet ≡ (findings_in r).second_sheet))
     (λ fault. round_fault r ≡ Some fault)
 
 settled : (r : Round) (after : Contents) (result : Result Reading Fault) → Promised r after result →
@@ -64,7 +65,7 @@ settled : (r : Round) (after : Contents) (result : Result Reading Fault) → Pro
 settled r after (Ok reading) said None e =
     let read = said.reads e in
     let left = said.leaves e in
-    (e, cc, cc, cc)
+    (e, cc, cc, cc, cc, cc)
 settled r after (Ok reading) said (Some fault) e = let refused = said.refused fault e in cc
 settled r after (Err fault) said None e = let read = said.reads e in cc
 settled r after (Err fault) said (Some other) e =

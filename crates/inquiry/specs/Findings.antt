@@ -8,7 +8,15 @@ use Rattle.inquiry.specs.declared.finding.Stop.TheVariants.{Refused, NoMemory}
 use Rattle.inquiry.specs.Text.{Findings}
 
 abbrev pub findings : Found → Findings
-findings f = record { position = f.position; first = f.first.items; second = f.second.items; carried = f.carried; entry = f.entry }
+findings f = record {
+  position = f.position;
+  first = f.first.items;
+  second = f.second.items;
+  first_sheet = f.first_sheet.items;
+  second_sheet = f.second_sheet.items;
+  carried = f.carried;
+  entry = f.entry;
+}
 
 -- the part of them that a round reads
 abbrev pub reading_of : Findings → Reading

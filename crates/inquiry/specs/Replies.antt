@@ -4,7 +4,7 @@ use Rattle.faults.specs.declared.Fault.{Fault}
 use Rattle.faults.specs.Faults.{number_of}
 use Rattle.digits.specs.Refusals.{or_else}
 use Rattle.family.specs.Vectors.{Vectors}
-use Rattle.scheme.specs.Answers.{sheet_size}
+use Rattle.scheme.specs.Answers.{sheet_size, sheet_of}
 use Rattle.scheme.specs.Queries.{second_query}
 use Rattle.scheme.specs.Sessions.{Session, opened, opening_fault, next_digits}
 use Rattle.host.specs.Holdings.{Holding}
@@ -48,26 +48,36 @@ inquiry_fault p =
     or_else (words_fault p.letters p.alphabet)
     (or_else (dense_fault p.table) (or_else (opening_fault p.tape) (round_fault (round_of p))))
 
--- What a round finds: the first query is the next tape digits, the second is told from them, and the entry is the table's at the
--- position.
+-- What a round finds: the first query is the next tape digits, the second is told from them, each sheet is the table's for its query,
+-- and the entry is the table's at the position.
 abbrev pub findings_in : Round → Findings
 findings_in r = record {
   position = r.position;
   first = next_digits r.session;
   second = second_query r.family r.position (next_digits r.session);
+  first_sheet = sheet_of r.family r.first_host.table (next_digits r.session);
+  second_sheet = sheet_of r.family r.second_host.table (second_query r.family r.position (next_digits r.session));
   carried = 14 * r.family.dim + 12;
   entry = r.first_host.table r.position;
 }
 
--- the text of a refusal, or of what was found where nothing is amiss
-abbrev pub answer_text : Option Fault → Findings → List ℕ
-answer_text None found = findings_text found
-answer_text (Some fault) found = refusal_text (number_of fault.cause)
+-- the text of a refusal, or what is told where nothing is amiss
+abbrev pub answer_text : Option Fault → List ℕ → List ℕ
+answer_text None told = told
+answer_text (Some fault) told = refusal_text (number_of fault.cause)
 
--- an input of another form is refused by number 1, as a row of another length is
+-- The reply to an inquiry by a program that tells a round in its own way. An input of another form is refused by number 1, as a row of
+-- another length is.
+abbrev pub reply_by : (Round → List ℕ) → Option Parts → List ℕ
+reply_by tell None = refusal_text 1
+reply_by tell (Some p) = answer_text (inquiry_fault p) (tell (round_of p))
+
+-- the program `lookup` tells what a round finds
+abbrev pub found_text : Round → List ℕ
+found_text r = findings_text (findings_in r)
+
 abbrev pub reply_to : Option Parts → List ℕ
-reply_to None = refusal_text 1
-reply_to (Some p) = answer_text (inquiry_fault p) (findings_in (round_of p))
+reply_to o = reply_by found_text o
 
 -- what the program prints for the bytes that it reads
 unfoldable pub reply : List ℕ → List ℕ

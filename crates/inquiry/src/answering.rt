@@ -1,5 +1,6 @@
 // The reply to an input: what the program prints.
 ghost use Rattle.std.specs.Prelude.{◌≡◌, ℕ, List, take, IfOk, Some, string_bytes};
+ghost use Rattle.inquiry.specs.Grammar.{inquiry_of};
 ghost use Rattle.inquiry.specs.Replies.{reply, reply_to};
 
 use crate::finding::Stop;
@@ -8,7 +9,7 @@ use crate::text::Refusal;
 use std::alloc::{AllocError, Global};
 
 // The number by which an input of another form is refused.
-const FORM: u32 = 1;
+pub const FORM: u32 = 1;
 
 impl Inquiry {
     ghost use Rattle.inquiry.specs.Inquiries.{said};
@@ -36,9 +37,11 @@ pub fn reply(heap: Global, input: &[u8]) -> Result<String, AllocError>
     }
 }
 
-// How many bytes of an input are enough to reply to it: one more than an inquiry may have, since any longer input is refused.
+// How many bytes of an input are enough to know what it says, and so to reply to it: one more than an inquiry may have, since any
+// longer input is refused.
 pub fn bytes_enough() -> u64
-    ensures { (input : List ℕ) → reply (take result input) ≡ reply input }
+    ensures says { (input : List ℕ) → inquiry_of (take result input) ≡ inquiry_of input }
+    ensures replied { (input : List ℕ) → reply (take result input) ≡ reply input }
 {
     MOST_BYTES as u64 + 1
 }

@@ -16,12 +16,15 @@ use session::Ready;
 use std::alloc::{AllocError, Global};
 use words::Words;
 
-// What a lookup finds: the position, the queries that the two hosts were shown, how many digits were carried, and the entry.
+// What a lookup finds: the position, the queries that the two hosts were shown, the sheets that they answered, how many digits were
+// carried, and the entry.
 #[derive(Drop)]
 pub struct Found {
     pub position: usize,
     pub first: Vec<u8>,
     pub second: Vec<u8>,
+    pub first_sheet: Vec<u8>,
+    pub second_sheet: Vec<u8>,
     pub carried: usize,
     pub entry: u8,
 }
@@ -72,7 +75,8 @@ fn play<F: Family, H: Host>(
     ensures { let r = round_with (ready_session session) (F.Family.vectors family.now) (H.Host.holding host.now) position in
         MatchResult result
         (λ reading. (round_fault r ≡ None) × (reading ≡ reading_of (findings_in r))
-        × (first_query.new ≡ (findings_in r).first) × (second_query.new ≡ (findings_in r).second))
+        × (first_query.new ≡ (findings_in r).first) × (second_query.new ≡ (findings_in r).second)
+        × (first_sheet.new ≡ (findings_in r).first_sheet) × (second_sheet.new ≡ (findings_in r).second_sheet))
         (λ fault. round_fault r ≡ Some fault) }
 {
     let rows = Rows {
@@ -116,6 +120,8 @@ fn find<F: Family, H: Host>(
         position,
         first,
         second,
+        first_sheet,
+        second_sheet,
         carried: reading.carried,
         entry: reading.entry,
     })

@@ -9,7 +9,7 @@ mod lines;
 mod numbers;
 pub mod text;
 
-pub use answering::{bytes_enough, reply};
+pub use answering::{FORM, bytes_enough, reply};
 pub use finding::{Found, Stop};
 pub use inquiry::Inquiry;
-pub use text::Refusal;
+pub use text::{Refusal, Spaced};

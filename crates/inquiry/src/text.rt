@@ -25,7 +25,7 @@ impl fmt::Display for NumberLine<'_> {
 
 // A row of digits, with a space before each.
 #[derive(Clone, Copy)]
-pub(crate) struct Spaced<'a>(pub &'a [u8]);
+pub struct Spaced<'a>(pub &'a [u8]);
 
 impl fmt::Display for Spaced<'_> {
     ghost output = { λ s. Some (spaced s.0.now) };

@@ -1,6 +1,11 @@
-use Rattle.std.proofs.Common.{arith}
+use Rattle.std.proofs.Common.{ap, arith}
+use Rattle.inquiry.specs.Replies.{reply, reply_to}
 use Rattle.inquiry.proofs.Cutting.{cut_alike}
 use Rattle.inquiry.proofs.answering.bytes_enough.Goals as goal
 
-pub returns : goal.returns
-returns c = λ input. cut_alike 8193 input (omega arith)
+pub returns-clause-says : goal.returns-clause-says
+returns-clause-says c = λ input. cut_alike 8193 input (omega arith)
+
+pub returns-clause-replied : goal.returns-clause-replied
+unfolding reply
+returns-clause-replied c = λ input. ap reply_to (cut_alike 8193 input (omega arith))
