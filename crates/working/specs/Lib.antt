@@ -1,0 +1,4 @@
+pub mod Workings
+pub mod Layout
+pub mod Works
+pub mod Keys
