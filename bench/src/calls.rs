@@ -1,6 +1,6 @@
 //! The implementations of the three calls.
 
-use crate::{engine, hand, hand_answer, shared};
+use crate::{hand, hand_answer, shared};
 
 type Request = fn(u32, u32, u32, &[u8], &mut [u8], &mut [u8], &mut [u8]) -> u32;
 pub type Answer = fn(u32, u32, &[u8], &[u8], &mut [u8]) -> u32;

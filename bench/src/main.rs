@@ -5,7 +5,6 @@ mod axis;
 mod calls;
 mod checks;
 mod digits;
-mod engine;
 mod figures;
 mod hand;
 mod hand_answer;

@@ -4,7 +4,7 @@ pub mod case;
 mod faults;
 pub mod lookups;
 
-use crate::engine::{self, Outcome};
+use crate::fenced_call::{self, Outcome};
 use crate::options::Options;
 use crate::random::Random;
 use crate::report::{Difference, Tally};
@@ -59,7 +59,7 @@ fn made(seed: u64, number: u64) -> Case {
 
 /// The result that both give, if they do the same in every respect.
 pub fn compared(case: &Case, name: String) -> Result<u32, Difference> {
-    let engine = engine::run(case);
+    let engine = fenced_call::run(case);
     let second = catch_unwind(|| second_run(case));
     match &second {
         Ok((status, rows)) if engine.status == *status && engine.rows == *rows && is_fit(case, &engine) => Ok(*status),

@@ -2,8 +2,8 @@
 
 mod benches;
 mod calls;
-mod engine;
 mod fenced;
+mod fenced_call;
 mod options;
 mod process;
 mod programs;

@@ -5,8 +5,8 @@ use super::hosts;
 use super::rows::{digits, flawed, position, row};
 use crate::calls::case::{Call, Case};
 use crate::calls::lookups::sheet_of;
-use crate::engine;
 use crate::fenced::Empty;
+use crate::fenced_call;
 use crate::random::Random;
 
 /// A session, as far as it is followed: that a line comes at another time than is thought here does no harm.
@@ -142,7 +142,7 @@ fn honest(random: &mut Random, family: &Family, waiting: &Waiting) -> Option<[Ve
     }
     let rows = vec![waiting.left.clone(), vec![0; k], vec![0; k], vec![0; 1]];
     let position = waiting.position as u32;
-    let asked = engine::run(&Case { call: Call::Request, h: sizes.h, q: sizes.q, position, rows, empty: Empty::BetweenFences });
+    let asked = fenced_call::run(&Case { call: Call::Request, h: sizes.h, q: sizes.q, position, rows, empty: Empty::BetweenFences });
     let table = random.digits(family.count);
     Some([1, 2].map(|query| sheet_of(random, sizes, &table, &asked.rows[query])))
 }

@@ -1,8 +1,8 @@
 //! Cases without a fault: requests, answers to them, and recoveries from sheets of many kinds.
 
 use super::case::{Call, Case};
-use crate::engine;
 use crate::fenced::Empty;
+use crate::fenced_call;
 use crate::random::Random;
 use crate::sizes::Sizes;
 
@@ -84,14 +84,14 @@ fn answer(random: &mut Random, sizes: Sizes) -> Case {
 /// What a lookup comes to before its recovery: position, shift, two queries.
 fn asked(random: &mut Random, sizes: Sizes) -> (u32, Vec<Vec<u8>>) {
     let request = request(random, sizes);
-    let outcome = engine::run(&request);
+    let outcome = fenced_call::run(&request);
     assert_eq!(outcome.status, 0, "an honest request is taken");
     (request.position, outcome.rows)
 }
 
 pub fn sheet_of(random: &mut Random, sizes: Sizes, table: &[u8], query: &[u8]) -> Vec<u8> {
     let rows = vec![table.to_vec(), query.to_vec(), vec![0; sizes.sheet()]];
-    let mut outcome = engine::run(&case(random, Call::Answer, sizes, 0, rows));
+    let mut outcome = fenced_call::run(&case(random, Call::Answer, sizes, 0, rows));
     assert_eq!(outcome.status, 0, "an honest answer is taken");
     outcome.rows.swap_remove(2)
 }

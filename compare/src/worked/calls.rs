@@ -3,8 +3,8 @@
 use super::PART;
 use crate::calls::case::{told_rows, Call, Case};
 use crate::calls::compared;
-use crate::engine;
 use crate::fenced::Empty;
+use crate::fenced_call;
 use crate::report::{Difference, Tally};
 use crate::sizes::Sizes;
 
@@ -25,7 +25,7 @@ pub fn refused(case: &Case, status: u32) -> Wanted {
 /// Runs a case in both, and holds both to what is wanted.
 pub fn held(name: String, wanted: &Wanted, case: &Case, tally: &mut Tally) {
     let alike = compared(case, format!("--part {PART}, {name}"));
-    let engine = engine::run(case);
+    let engine = fenced_call::run(case);
     match alike {
         Err(difference) => tally.differences.push(difference),
         Ok(status) if status == wanted.status && engine.rows == wanted.rows => tally.count(format!("calls of {}", case.call.name())),
@@ -106,12 +106,12 @@ fn letters_apart(q: u32) -> Vec<Named> {
     let sizes = Sizes { h: 5, q };
     let k = sizes.dimension();
     let zeros = vec![vec![0; k], vec![9; k], vec![9; k], vec![9]];
-    let own = engine::run(&case(Call::Request, [5, q, 0], zeros.clone())).rows.swap_remove(2);
+    let own = fenced_call::run(&case(Call::Request, [5, q, 0], zeros.clone())).rows.swap_remove(2);
     let differ = |letters: u32| (0..letters).map(|place| q.pow(place)).sum::<u32>();
     let products = [0, 1, 4, 3, 4, 1];
     (0..6)
         .map(|letters| {
-            let v = engine::run(&case(Call::Request, [5, q, differ(letters)], zeros.clone())).rows.swap_remove(2);
+            let v = fenced_call::run(&case(Call::Request, [5, q, differ(letters)], zeros.clone())).rows.swap_remove(2);
             let request = case(Call::Request, [5, q, 0], vec![v.clone(), vec![9; k], vec![9; k], vec![9]]);
             let second = v.iter().zip(&own).map(|(a, b)| (a + b) % 6).collect();
             let rows = vec![v.clone(), v, second, vec![products[letters as usize]]];

@@ -34,8 +34,16 @@ pub struct Done {
     pub read: Read,
 }
 
+/// What a program prints for its input: the lines in which it tells a lookup, or the refusal's number.
+pub fn reply(input: &[u8], told: fn(&Done) -> String) -> String {
+    match run(input) {
+        Ok(done) => told(&done),
+        Err(number) => format!("refused {number}\n"),
+    }
+}
+
 /// Does the lookup that the input asks for, or gives the number of the refusal.
-pub fn run(input: &[u8]) -> Result<Done, u32> {
+fn run(input: &[u8]) -> Result<Done, u32> {
     let task = parse(input).ok_or(NOT_OF_THE_GRAMMAR)?;
     look_up(task).map_err(|fault| fault.number())
 }

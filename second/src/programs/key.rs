@@ -1,6 +1,6 @@
 //! The program `key`: the whole working of one lookup, as an examiner needs it.
 
-use super::input::{run, Done};
+use super::input::{reply, Done};
 use super::tell;
 use crate::digits::dot;
 use crate::recovery::work;
@@ -10,10 +10,7 @@ const MOST_DIGITS: usize = 30;
 
 /// What it prints for its input.
 pub fn print(input: &[u8]) -> String {
-    match run(input) {
-        Ok(done) => told(&done),
-        Err(number) => format!("refused {number}\n"),
-    }
+    reply(input, told)
 }
 
 /// The lines for a lookup that was read.

@@ -1,14 +1,11 @@
 //! The program `lookup`: one lookup from end to end, and its few lines of output.
 
-use super::input::{run, Done};
+use super::input::{reply, Done};
 use super::tell;
 
 /// What it prints for its input.
 pub fn print(input: &[u8]) -> String {
-    match run(input) {
-        Ok(done) => told(&done),
-        Err(number) => format!("refused {number}\n"),
-    }
+    reply(input, told)
 }
 
 /// The lines for a lookup that was read.

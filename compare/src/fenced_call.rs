@@ -1,49 +1,8 @@
-//! The engine's three calls, as the static library has them.
+//! The engine's three calls, on rows between fences.
 
 use crate::calls::case::{Call, Case};
 use crate::fenced::Fenced;
-
-extern "C" {
-    #[rustfmt::skip]
-    fn visordate_request(
-        h: u32,
-        q: u32,
-        position: u32,
-        tape: *const u8,
-        tape_len: usize,
-        first: *mut u8,
-        first_len: usize,
-        second: *mut u8,
-        second_len: usize,
-        shift: *mut u8,
-        shift_len: usize,
-    ) -> u32;
-    #[rustfmt::skip]
-    fn visordate_answer(
-        h: u32,
-        q: u32,
-        table: *const u8,
-        table_len: usize,
-        query: *const u8,
-        query_len: usize,
-        sheet: *mut u8,
-        sheet_len: usize,
-    ) -> u32;
-    #[rustfmt::skip]
-    fn visordate_recover(
-        h: u32,
-        q: u32,
-        position: u32,
-        shift: *const u8,
-        shift_len: usize,
-        first: *const u8,
-        first_len: usize,
-        second: *const u8,
-        second_len: usize,
-        entry: *mut u8,
-        entry_len: usize,
-    ) -> u32;
-}
+use engine::c::{visordate_answer, visordate_recover, visordate_request};
 
 /// What a call came to: its result, and each row after it.
 pub struct Outcome {

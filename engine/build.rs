@@ -10,7 +10,11 @@ fn main() {
         format!("{here}/../crates/bootloader/out")
     });
     let library = Path::new(&folder).join("libbootloader.a");
-    assert!(library.is_file(), "{} is not there: run `rt lib` in crates/bootloader", library.display());
+    assert!(
+        library.is_file(),
+        "{} is not there: run `rt lib` in crates/bootloader",
+        library.display()
+    );
     println!("cargo:rerun-if-changed={}", library.display());
     println!("cargo:rustc-link-search=native={folder}");
     println!("cargo:rustc-link-lib=static=bootloader");

@@ -1,6 +1,7 @@
-//! The engine: the three calls of `include/visordate.h`, on slices.
+//! The engine: the three calls of `include/visordate.h`, as C has them and on slices.
 
-mod c {
+/// The calls as C has them: each row is a pointer and its length.
+pub mod c {
     unsafe extern "C" {
         pub fn visordate_request(
             h: u32,
