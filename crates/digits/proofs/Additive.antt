@@ -3,8 +3,8 @@ use Rattle.std.proofs.Common.{◌≡◌, ℕ, zero, suc, ◌+◌, ◌*◌, ◌%�
 use Rattle.digits.specs.Elements.{zero_element, plus, scaled}
 use Rattle.digits.specs.Rows.{at}
 use Rattle.digits.specs.Ring.{sum_of}
-use Rattle.digits.proofs.RowLaws.{at_row, row_cong}
-use Rattle.digits.proofs.RingSums.{plus-plus}
+use Rattle.digits.proofs.RowLaws.{row_cong}
+use Rattle.digits.proofs.RingSums.{at_scaled, plus-plus}
 
 pub record Additive (m : List ℕ → List ℕ) : Type 0 where
   pub nothing : m zero_element ≡ zero_element
@@ -37,7 +37,7 @@ additive_sum m a (suc n) e = a.sums (sum_of n e) (e n) ∙ ap (λ s. plus s (m (
 scaled-suc : (n : ℕ) (x : List ℕ) → scaled (suc n) x ≡ plus (scaled n x) x
 scaled-suc n x =
     row_cong 6 (λ r. suc n * at x r % 6) (λ r. (at (scaled n x) r + at x r) % 6)
-    (λ r h. omega (arith, at_row 6 (λ q. n * at x q % 6) r h))
+    (λ r h. omega (arith, at_scaled n x r h))
 
 scaled-zero : (x : List ℕ) → scaled 0 x ≡ zero_element
 scaled-zero x = simp zero-mul

@@ -1,11 +1,12 @@
 -- Rows of digits: those made by a rule, and what is put together or cut from them; and that they are not refused.
-use Rattle.std.proofs.Common.{◌≡◌, ℕ, zero, suc, ◌+◌, ◌%◌, ◌<◌, ltb, List, [], ◌∷◌, ◌++◌, length, take, drop, None, inl, inr, get_or-drop, eq-eqb, lt-ltb, arith}
+use Rattle.std.proofs.Common.{◌≡◌, ℕ, zero, suc, ◌+◌, ◌%◌, ◌<◌, ltb, List, [], ◌∷◌, ◌++◌, length, take, drop, None, inl, inr, get_or-drop, eqb, eqb-true, eq-eqb, lt-ltb, arith}
 use Rattle.std.proofs.lemmas.Bool.{cases_lt, cond-true}
 use Rattle.std.proofs.lemmas.List.{get_or_past}
 use Rattle.std.proofs.lemmas.List.Sums.{prefix_len_is}
 use Rattle.digits.specs.Rows.{row, Digits, first_above}
 use Rattle.digits.specs.Refusals.{digits_fault}
-use Rattle.digits.proofs.RowLaws.{length-row, at_row}
+use Rattle.digits.proofs.Passing.{passed}
+use Rattle.digits.proofs.RowLaws.{length-row, at_row, above_none}
 
 pub digits-row : (n : ℕ) (f : ℕ → ℕ) → ((i : ℕ) → i < n → f i < 6) → Digits (row n f)
 digits-row n f each i =
@@ -32,7 +33,10 @@ digits-take (suc n) [] d i = omega arith
 digits-take (suc n) (x ∷ xs) d zero = d 0
 digits-take (suc n) (x ∷ xs) d (suc i) = digits-take n xs (λ j. d (suc j)) i
 
--- the other way round, see `above_none`
+-- a row is not refused for its bytes exactly where each is a digit
+pub digits_from : (xs : List ℕ) → digits_fault xs ≡ None → Digits xs
+digits_from xs e = above_none xs (eqb-true (first_above xs) (length xs) (passed (eqb (first_above xs) (length xs)) _ e))
+
 pub digits_pass : (xs : List ℕ) → Digits xs → digits_fault xs ≡ None
 digits_pass xs d =
     cond-true _ None _

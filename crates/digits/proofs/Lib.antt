@@ -8,6 +8,7 @@ pub mod Powers
 pub mod RingLaws
 pub mod RingSums
 pub mod RowLaws
+pub mod Spacing
 pub mod Stretches
 pub mod SumLaws
 pub mod Sums

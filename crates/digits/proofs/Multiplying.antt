@@ -1,11 +1,11 @@
 -- The product of two elements, digit by digit: to each i there is one j with i + j = r modulo 6.
-use Rattle.std.proofs.Common.{◌≡◌, ℕ, ◌+◌, ◌-◌, ◌*◌, ◌%◌, ◌<◌, List, ◌++◌, length, take, drop, reverse, sym, ap, ◌∙◌, mul-zero, mul-one, arith}
+use Rattle.std.proofs.Common.{◌≡◌, ℕ, ◌+◌, ◌-◌, ◌*◌, ◌%◌, ◌<◌, List, ◌++◌, length, take, drop, reverse, sym, ap, ◌∙◌, arith}
 use Rattle.std.proofs.lemmas.List.{length-reverse, get_or-reverse}
 use Rattle.digits.specs.Elements.{times, times_digit}
 use Rattle.digits.specs.Rows.{at}
 use Rattle.digits.specs.Sums.{total, product, same}
 use Rattle.digits.proofs.RowLaws.{at_row, at_rotated}
-use Rattle.digits.proofs.Sums.{total_cong, total_only, same_yes, same_no}
+use Rattle.digits.proofs.Sums.{total_cong, total_only, kept, dropped}
 
 -- what digit i of the first factor adds to digit r: it meets the one j that is r less i
 partner : (a : ℕ) (f : List ℕ) (r i : ℕ) → r < 6 → i < 6 → total 6 (λ j. a * at f j * same ((i + j) % 6) r) ≡ a * at f ((r + 6 - i) % 6)
@@ -13,10 +13,8 @@ partner a f r i hr hi =
     let t : ℕ = (r + 6 - i) % 6 in
     let meets : (i + t) % 6 ≡ r = omega arith in
     total_only 6 t (λ j. a * at f j * same ((i + j) % 6) r) (omega arith)
-    (λ j l ne.
-    let apart : same ((i + j) % 6) r ≡ 0 = same_no ((i + j) % 6) r (λ e. ne (omega arith)) in
-    ap (λ d. a * at f j * d) apart ∙ mul-zero (a * at f j))
-    ∙ ap (λ d. a * at f t * d) (same_yes ((i + t) % 6) r meets) ∙ mul-one (a * at f t)
+    (λ j l ne. dropped (a * at f j) ((i + j) % 6) r (λ e. ne (omega arith)))
+    ∙ kept (a * at f t) ((i + t) % 6) r meets
 
 -- so the sum over all pairs is a sum over the digits of the first factor
 pairs_single : (e f : List ℕ) (r : ℕ) → r < 6 →

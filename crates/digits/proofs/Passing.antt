@@ -1,8 +1,9 @@
--- Tests that refuse: when one has passed, and which of two decides.
-use Rattle.std.proofs.Common.{◌≡◌, ℕ, Bool, true, false, cond, Some, None, Option, sym, refl, ap, ◌∙◌, inl, inr, arith}
+-- Tests that refuse: when one has passed, what that says of a length or a number, and which of two decides.
+use Rattle.std.proofs.Common.{◌≡◌, ℕ, Bool, true, false, cond, List, length, Some, None, Option, eqb, eqb-true, eq-eqb, sym, refl, ap, ◌∙◌, inl, inr, arith}
 use Rattle.std.proofs.lemmas.Bool.{cases_Bool, cond-true, cond-false}
 use Rattle.faults.specs.declared.Fault.{Fault}
-use Rattle.digits.specs.Refusals.{or_else}
+use Rattle.faults.specs.declared.Layer.{Layer}
+use Rattle.digits.specs.Refusals.{or_else, width_fault, long_fault, equal_fault}
 
 pub some≢none : {X : Type 0} (x : X) → ◌≡◌ {A = Option X} (Some x) None → ⊥
 some≢none x e = let z : ◌≡◌ {A = ℕ} 0 1 = cc in omega arith
@@ -15,6 +16,24 @@ passed b x e =
 pub failed : {X : Type 0} (b : Bool) (x : X) → cond b (Some x) None ≡ None → b ≡ false
 failed b x e =
     elim (cases_Bool b) [ inl t ↦ absurd (some≢none x (sym (cond-true b (Some x) None t) ∙ e)) | inr n ↦ n ]
+
+-- a length is not refused exactly where it is the one needed
+pub width_is : (n found : ℕ) → width_fault n found ≡ None → found ≡ n
+width_is n found e = eqb-true found n (passed (eqb found n) _ e)
+
+-- the same of a row
+pub long_is : (n : ℕ) (xs : List ℕ) → long_fault n xs ≡ None → length xs ≡ n
+long_is n xs e = width_is n (length xs) e
+
+pub long_passes : (n : ℕ) (xs : List ℕ) → length xs ≡ n → long_fault n xs ≡ None
+long_passes n xs e = cond-true (eqb (length xs) n) None _ (eq-eqb (length xs) n e)
+
+-- a count or a dimension is not refused exactly where it is the one needed
+pub equal_is : (part : Layer) (n found : ℕ) → equal_fault part n found ≡ None → found ≡ n
+equal_is part n found e = eqb-true found n (passed (eqb found n) _ e)
+
+pub equal_passes : (part : Layer) (n found : ℕ) → found ≡ n → equal_fault part n found ≡ None
+equal_passes part n found e = cond-true (eqb found n) None _ (eq-eqb found n e)
 
 -- nothing is amiss exactly where neither of two checks finds a fault
 pub or_else_none : (first second : Option Fault) → or_else first second ≡ None → (first ≡ None) × (second ≡ None)

@@ -5,13 +5,13 @@ use Rattle.digits.specs.Rows.{at, row}
 use Rattle.digits.specs.Sums.{total, same}
 use Rattle.digits.specs.Ring.{one_element, sum_of}
 use Rattle.digits.proofs.RowLaws.{at_row, row_cong}
-use Rattle.digits.proofs.Sums.{total_only, same_yes, same_no}
+use Rattle.digits.proofs.Sums.{total_only, kept, dropped}
 use Rattle.digits.proofs.SumLaws.{total_mod}
 use Rattle.digits.proofs.Turning.{at_power}
 use Rattle.digits.proofs.Additive.{Additive, additive_same, additive_sum, additive_scaled}
 use Rattle.digits.proofs.Powers.{power-times}
 use Rattle.digits.proofs.RingLaws.{additive_times}
-use Rattle.digits.proofs.RingSums.{sum_of-row, sum_cong}
+use Rattle.digits.proofs.RingSums.{at_scaled, sum_of-row, sum_cong}
 
 -- the sum of all w(i) g^e(i), digit by digit
 pub powers_row : (n : ℕ) (w e digit : ℕ → ℕ) → ((r : ℕ) → r < 6 → digit r ≡ total n (λ i. w i * same (e i % 6) r) % 6) →
@@ -21,7 +21,7 @@ powers_row n w e digit is =
     (λ r h.
     is r h
     ∙ total_mod n (λ i. w i * same (e i % 6) r) (λ i. at (scaled (w i) (power 1 (e i))) r)
-    (λ i l. omega (arith, at_row 6 (λ q. w i * at (power 1 (e i)) q % 6) r h, ap (λ d. w i * d) (at_power (e i) r h))))
+    (λ i l. omega (arith, at_scaled (w i) (power 1 (e i)) r h, ap (λ d. w i * d) (at_power (e i) r h))))
     ∙ sym (sum_of-row n (λ i. scaled (w i) (power 1 (e i))))
 
 -- an element's digits are its factors at the powers of g
@@ -29,8 +29,8 @@ expanded : (e : List ℕ) → plus zero_element e ≡ sum_of 6 (λ s. scaled (at
 expanded e =
     powers_row 6 (at e) (λ s. s) (λ r. (at zero_element r + at e r) % 6)
     (λ r h.
-    let one = ap (λ d. at e r * d) (same_yes (r % 6) r (omega arith)) in
-    let only = total_only 6 r (λ s. at e s * same (s % 6) r) h (λ s l ne. ap (λ d. at e s * d) (same_no (s % 6) r (λ k. ne (omega arith))) ∙ omega arith) in
+    let one = kept (at e r) (r % 6) r (omega arith) in
+    let only = total_only 6 r (λ s. at e s * same (s % 6) r) h (λ s l ne. dropped (at e s) (s % 6) r (λ k. ne (omega arith))) in
     omega (arith, at_row 6 (λ q. 0) r h))
 
 -- two additive maps that agree at the powers of g agree at each element of digits

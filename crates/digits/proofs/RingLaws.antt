@@ -8,7 +8,7 @@ use Rattle.digits.proofs.Multiplying.{at-times, times_digit_single}
 use Rattle.digits.proofs.RowLaws.{at_row, row_cong}
 use Rattle.digits.proofs.SumLaws.{total_add, total_mod, total_nil, total_swap}
 use Rattle.digits.proofs.Additive.{Additive, additive_scaled}
-use Rattle.digits.proofs.RingSums.{at_plus}
+use Rattle.digits.proofs.RingSums.{at_plus, at_scaled}
 
 digit_comm : (e f : List ℕ) (r : ℕ) → times_digit e f r ≡ times_digit f e r
 unfolding times_digit
@@ -58,13 +58,13 @@ additive_number n = record {
       row_cong 6 (λ r. n * at (plus x y) r % 6) (λ r. (at (scaled n x) r + at (scaled n y) r) % 6)
       (λ r h.
       ap (λ d. n * d % 6) (at_plus x y r h)
-      ∙ omega (arith, mul-mod_second n (at x r + at y r) 6, at_row 6 (λ q. n * at x q % 6) r h, at_row 6 (λ q. n * at y q % 6) r h));
+      ∙ omega (arith, mul-mod_second n (at x r + at y r) 6, at_scaled n x r h, at_scaled n y r h));
 }
 
 pub scaled-scaled : (m n : ℕ) (x : List ℕ) → scaled m (scaled n x) ≡ scaled (m * n) x
 scaled-scaled m n x =
     row_cong 6 (λ r. m * at (scaled n x) r % 6) (λ r. m * n * at x r % 6)
-    (λ r h. ap (λ d. m * d % 6) (at_row 6 (λ q. n * at x q % 6) r h) ∙ omega (arith, mul-mod_second m (n * at x r) 6))
+    (λ r h. ap (λ d. m * d % 6) (at_scaled n x r h) ∙ omega (arith, mul-mod_second m (n * at x r) 6))
 
 -- a product with one factor a number of times another
 pub scaled-times : (n : ℕ) (c x : List ℕ) → scaled n (times c x) ≡ times (scaled n c) x

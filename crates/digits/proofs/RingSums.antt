@@ -1,4 +1,4 @@
--- Sums of elements: their digits, and the laws of adding.
+-- Sums of elements, and multiples: their digits, and the laws of adding.
 use Rattle.std.proofs.Common.{◌≡◌, ℕ, zero, suc, ◌+◌, ◌*◌, ◌%◌, ◌<◌, List, sym, refl, ap, ap₂, ◌∙◌, add-one, arith}
 use Rattle.digits.specs.Elements.{zero_element, plus, scaled}
 use Rattle.digits.specs.Rows.{at, row}
@@ -9,6 +9,9 @@ use Rattle.digits.proofs.SumLaws.{total_one, total_mod, total_scale, mul_same}
 
 pub at_plus : (x y : List ℕ) (r : ℕ) → r < 6 → at (plus x y) r ≡ (at x r + at y r) % 6
 at_plus x y r l = at_row 6 (λ q. (at x q + at y q) % 6) r l
+
+pub at_scaled : (n : ℕ) (x : List ℕ) (r : ℕ) → r < 6 → at (scaled n x) r ≡ n * at x r % 6
+at_scaled n x r l = at_row 6 (λ q. n * at x q % 6) r l
 
 -- An element of digits is one to which adding nothing changes nothing: a row of six remainders is such.
 pub zero-plus-row : (f : ℕ → ℕ) → plus zero_element (row 6 (λ r. f r % 6)) ≡ row 6 (λ r. f r % 6)
@@ -84,5 +87,5 @@ sum_scaled k w n x e =
     sum_of-row k (λ c. scaled (w c) x)
     ∙ row_cong 6 (λ r. total k (λ c. at (scaled (w c) x) r) % 6) (λ r. n * at x r % 6)
     (λ r h.
-    total_mod k (λ c. at (scaled (w c) x) r) (λ c. at x r * w c) (λ c l. omega (arith, at_row 6 (λ q. w c * at x q % 6) r h))
+    total_mod k (λ c. at (scaled (w c) x) r) (λ c. at x r * w c) (λ c l. omega (arith, at_scaled (w c) x r h))
     ∙ omega (arith, total_scale k (at x r) w, mul_same (at x r) (total k w) n e))

@@ -4,7 +4,7 @@ use Rattle.std.proofs.lemmas.List.FromFn.{length-map-range_with_len, get_or-map-
 use Rattle.std.proofs.lemmas.List.{ext_get_or, get_or_append_left, get_or-append_right, get_or-take, get_or-drop}
 use Rattle.std.proofs.lemmas.Bool.{cases_Bool, cases_lt, ltb-true, leb-true, and_parts, cond-true, cond-false}
 use Rattle.faults.specs.declared.Layer.{Layer}
-use Rattle.digits.specs.Rows.{at, row, Digits, first_above}
+use Rattle.digits.specs.Rows.{at, row, Digits, first_above, reduced}
 use Rattle.digits.specs.Refusals.{limit_fault}
 use Rattle.digits.proofs.Passing.{passed}
 
@@ -33,6 +33,10 @@ above_none (x ∷ xs) e i =
     from : (i : ℕ) → x < 6 → Digits xs → at (x ∷ xs) i < 6
     from zero h d = h
     from (suc i) h d = d i
+
+-- a row is reduced once each of its bytes is
+pub reduced_all : (xs ys : List ℕ) → length ys ≡ length xs → ((i : ℕ) → i < length xs → at ys i ≡ at xs i % 6) → ys ≡ reduced xs
+reduced_all xs ys long each = fill_by_all (λ i. at xs i % 6) ys (length xs) 0 long each
 
 -- a row of six digits, one by one
 pub six_of : (xs : List ℕ) → length xs ≡ 6 → at xs 0 ∷ at xs 1 ∷ at xs 2 ∷ at xs 3 ∷ at xs 4 ∷ at xs 5 ∷ [] ≡ xs

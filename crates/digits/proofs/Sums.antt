@@ -1,5 +1,5 @@
 -- Laws of `total`, of products of vectors and of `same`.
-use Rattle.std.proofs.Common.{◌≡◌, ℕ, zero, suc, ◌+◌, ◌*◌, ◌%◌, ◌<◌, eqb, sym, refl, ap, ◌∙◌, ap₂, inl, inr, not-suc-le-zero, add-zero, add_assoc, add-suc, zero-add, zero-mul, add-one, arith}
+use Rattle.std.proofs.Common.{◌≡◌, ℕ, zero, suc, ◌+◌, ◌*◌, ◌%◌, ◌<◌, eqb, sym, refl, ap, ◌∙◌, ap₂, inl, inr, not-suc-le-zero, add-zero, add_assoc, add-suc, zero-add, zero-mul, mul-zero, mul-one, add-one, arith}
 use Rattle.std.proofs.lemmas.Bool.{cases_eq, eq-eqb, ne_eqb, cond-true, cond-false}
 use Rattle.digits.specs.Sums.{total, product, same}
 
@@ -81,3 +81,10 @@ same_yes a b e = cond-true (eqb a b) 1 0 (eq-eqb a b e)
 
 pub same_no : (a b : ℕ) → (a ≡ b → ⊥) → same a b ≡ 0
 same_no a b e = cond-false (eqb a b) 1 0 (ne_eqb a b e)
+
+-- a number that counts where two others are equal
+pub kept : (n a b : ℕ) → a ≡ b → n * same a b ≡ n
+kept n a b e = ap (λ s. n * s) (same_yes a b e) ∙ mul-one n
+
+pub dropped : (n a b : ℕ) → (a ≡ b → ⊥) → n * same a b ≡ 0
+dropped n a b ne = ap (λ s. n * s) (same_no a b ne) ∙ mul-zero n

@@ -7,6 +7,7 @@ use Rattle.digits.specs.Rows.{at, Digits}
 use Rattle.digits.specs.Sums.{same}
 use Rattle.digits.proofs.RowLaws.{at_row, at_rotated, row_cong}
 use Rattle.digits.proofs.Multiplying.{at-times}
+use Rattle.digits.proofs.RingSums.{at_scaled}
 use Rattle.digits.proofs.Sums.{total_only, same_yes, same_no}
 
 -- the power s of g has a 1 at s modulo 6 and 0 elsewhere
@@ -44,5 +45,5 @@ pub turned-scaled : (s a : ℕ) (e : List ℕ) → turned s (scaled a e) ≡ sca
 turned-scaled s a e =
     row_cong 6 (λ r. at (scaled a e) ((r + s) % 6)) (λ r. a * at (turned s e) r % 6)
     (λ r h.
-    at_row 6 (λ q. a * at e q % 6) ((r + s) % 6) (omega arith)
+    at_scaled a e ((r + s) % 6) (omega arith)
     ∙ ap (λ d. a * d % 6) (sym (at_row 6 (λ q. at e ((q + s) % 6)) r h)))

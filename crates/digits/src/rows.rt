@@ -1,7 +1,7 @@
-// Rows of digits: reading a digit, adding to one, and refusing a row that is none.
-ghost use Rattle.std.specs.Prelude.{◌≡◌, ◌+◌, ◌%◌, ◌<◌, length, Some, None, MatchOption, MatchResult, OnOk, slice_set};
+// Rows of digits: reading a digit or the rest of a row, adding to a digit, reducing a row, and refusing one that is none.
+ghost use Rattle.std.specs.Prelude.{◌≡◌, ◌+◌, ◌%◌, ◌<◌, length, Some, None, MatchOption, MatchResult, OnOk, slice_set, drop};
 ghost use Rattle.digits.specs.Refusals.{digits_fault, lone_fault, long_fault, row_fault};
-ghost use Rattle.digits.specs.Rows.{at, Digits, first_above};
+ghost use Rattle.digits.specs.Rows.{at, Digits, first_above, reduced};
 
 use faults::Fault;
 
@@ -10,6 +10,13 @@ pub fn digit_at(row: &[u8], place: usize) -> u8
     ensures { result ≡ at row.now place }
 {
     row.get(place).copied().unwrap_or(0)
+}
+
+// What a row has from a place on; past the row's end there is nothing.
+pub fn rest_at(row: &[u8], place: usize) -> &[u8]
+    ensures { result.now ≡ drop place row.now }
+{
+    row.get(place..).unwrap_or(&[])
 }
 
 // The place of the first byte above 5, if there is one.
@@ -43,6 +50,7 @@ pub fn check_length(row: &[u8], len: usize) -> Result<(), Fault>
 }
 
 // Refuses a row that holds a byte above 5, naming the place of the first.
+#[tactic(auto, using(crate::proofs::RowLaws::above_none))]
 pub fn check_digits(row: &[u8]) -> Result<(), Fault>
     ensures cases { MatchResult result (λ _. digits_fault row.now ≡ None) (λ e. digits_fault row.now ≡ Some e) }
     ensures fits { OnOk result (Digits row.now) }
@@ -69,5 +77,15 @@ pub fn add_at(row: &mut [u8], place: usize, amount: u32)
     // by index: after `get_mut` a proof knows no byte of the row, so it did not close
     if place < row.len() {
         row[place] = ((u64::from(row[place]) + u64::from(amount)) % 6) as u8;
+    }
+}
+
+// Takes each byte of a row modulo 6.
+#[tactic(auto, using(crate::proofs::RowLaws::reduced_all))]
+pub fn reduce(row: &mut [u8])
+    ensures { row.new ≡ reduced row.old }
+{
+    for digit in row.iter_mut() {
+        *digit %= 6;
     }
 }

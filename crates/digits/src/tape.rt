@@ -3,7 +3,7 @@ ghost use Rattle.std.specs.Prelude.{◌≡◌, length, Some, None, MatchResult};
 ghost use Rattle.digits.specs.Refusals.{long_fault};
 ghost use Rattle.digits.specs.Tapes.{drawn};
 
-use crate::rows::check_length;
+use crate::rows::{check_length, reduce};
 use faults::Fault;
 
 // Draws a tape from random bytes, each of which gives its remainder by 6. Rows of unequal length are refused, naming the
@@ -14,10 +14,7 @@ pub fn draw(bytes: &[u8], tape: &mut [u8]) -> Result<(), Fault>
         (λ f. (long_fault (length tape.old) bytes.now ≡ Some f) × (tape.new ≡ tape.old)) }
 {
     check_length(bytes, tape.len())?;
-    // copied first: of what is written through `iter_mut` zipped with the bytes a proof would know nothing
     tape.copy_from_slice(bytes);
-    for digit in tape.iter_mut() {
-        *digit %= 6;
-    }
+    reduce(tape);
     Ok(())
 }

@@ -1,6 +1,7 @@
 -- Faults as text.
 use Rattle.std.specs.Prelude.{ℕ, List, [], ◌∷◌, ◌++◌, codes, decimal}
 use Rattle.faults.specs.declared.Cause.{Cause}
+use Rattle.faults.specs.declared.Fault.{Fault}
 use Rattle.faults.specs.declared.Layer.{Layer}
 use Rattle.faults.specs.declared.Layer.TheVariants.{Element, Family, Host, Session}
 use Rattle.faults.specs.Faults.{number_of, word_of, named}
@@ -19,3 +20,7 @@ layer_text Element = codes "element"
 layer_text Family = codes "family"
 layer_text Host = codes "host"
 layer_text Session = codes "session"
+
+-- a fault as its cause and its layer, with one space between
+abbrev pub fault_text : Fault → List ℕ
+fault_text e = cause_text e.cause ++ (codes " " ++ layer_text e.layer)

@@ -1,8 +1,8 @@
-// Faults as text: a cause as its number, its word and what it names, and a layer as its word.
+// Faults as text: a cause as its number, its word and what it names, a layer as its word, and a fault as its cause and its layer.
 ghost use Rattle.std.specs.Prelude.{Some};
-ghost use Rattle.faults.specs.Text.{cause_text, layer_text};
+ghost use Rattle.faults.specs.Text.{cause_text, layer_text, fault_text};
 
-use crate::{Cause, Layer};
+use crate::{Cause, Fault, Layer};
 use std::fmt;
 
 impl fmt::Display for Cause {
@@ -35,5 +35,15 @@ impl fmt::Display for Layer {
             Layer::Host => f.write_str("host"),
             Layer::Session => f.write_str("session"),
         }
+    }
+}
+
+impl fmt::Display for Fault {
+    ghost output = { λ e. Some (fault_text e) };
+
+    fn fmt<W: fmt::Write>(&self, f: &mut fmt::Formatter<W>) -> fmt::Result {
+        let cause = self.cause;
+        let layer = self.layer;
+        write!(f, "{cause} {layer}")
     }
 }

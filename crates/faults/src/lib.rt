@@ -3,7 +3,8 @@
 #![tactic(auto)]
 
 ghost use Rattle.std.specs.Prelude.{◌≡◌};
-ghost use Rattle.faults.specs.Faults.{number_of, word_of, length_fault, digit_fault, size_fault, counts_fault, unmatched_fault, position_fault, spent_fault, at_odds_fault, full_fault};
+ghost use Rattle.faults.specs.Faults.{number_of, word_of, length_fault, digit_fault, size_fault, counts_fault, unmatched_fault};
+ghost use Rattle.faults.specs.Faults.{position_fault, spent_fault, at_odds_fault, full_fault};
 
 pub mod display;
 

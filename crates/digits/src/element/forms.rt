@@ -5,7 +5,7 @@ ghost use Rattle.digits.specs.Refusals.{long_fault, row_fault};
 ghost use Rattle.digits.specs.Rows.{at};
 
 use crate::element::Element;
-use crate::rows::{check_length, check_row, digit_at};
+use crate::rows::{check_length, check_row, digit_at, rest_at};
 use faults::Fault;
 use std::array;
 
@@ -21,7 +21,7 @@ impl Element {
     pub fn read_at(row: &[u8], place: usize) -> Element
         ensures { result.digits ≡ element_at row.now place }
     {
-        let rest = row.get(place..).unwrap_or(&[]);
+        let rest = rest_at(row, place);
         Element {
             digits: array::from_fn(|r| digit_at(rest, r) % 6),
         }
@@ -57,11 +57,22 @@ impl From<[u8; 6]> for Element {
     }
 }
 
+// The six digits of an element.
+impl From<Element> for [u8; 6] {
+    ghost from_gives = { λ e digits. digits ≡ e.digits };
+
+    fn from(element: Element) -> [u8; 6] {
+        element.digits
+    }
+}
+
 // The element that a row of six digits holds; any other row is refused.
 impl TryFrom<&[u8]> for Element {
     type Error = Fault;
 
-    ghost try_from_gives = { λ row result. MatchResult result (λ e. (row_fault 6 row.now ≡ None) × (e.digits ≡ row.now)) (λ f. row_fault 6 row.now ≡ Some f) };
+    ghost try_from_gives = { λ row result. MatchResult result
+        (λ e. (row_fault 6 row.now ≡ None) × (e.digits ≡ row.now))
+        (λ f. row_fault 6 row.now ≡ Some f) };
 
     fn try_from(row: &[u8]) -> Result<Element, Fault> {
         check_row(row, 6)?;

@@ -22,6 +22,7 @@ impl Add for Element {
 
 // Digit r of a product, r taken modulo 6: the sum of all a(i) b(j) where i + j leaves r. To each i there is one such j, so
 // the digits of b stand backward, from j = r on.
+#[tactic(auto, using(crate::proofs::Multiplying::partners_product))]
 fn product_digit(a: &Element, b: &Element, r: usize) -> u8
     ensures value { result ≡ times_digit a.now.digits b.now.digits (r % 6) }
     ensures small { result < 6 }
