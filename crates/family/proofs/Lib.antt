@@ -1,3 +1,4 @@
 pub mod Adding
 pub mod Allowing
 pub mod Multiples
+pub mod PastCount

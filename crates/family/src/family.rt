@@ -33,9 +33,11 @@ pub trait Family {
         ensures { result ≡ (vectors self.now).v i c };
 
     // Adds v(i) to a row, digit by digit. Where v(i) is 0 nothing changes; digits past the row's end are passed over.
+    #[tactic(auto, using(crate::proofs::Adding::added_all))]
     fn add_v(&self, i: usize, row: &mut [u8])
         ensures { row.new ≡ added ((vectors self.now).v i) row.old }
     {
+        // by coordinate, not along `row.iter_mut().enumerate()`: after that a proof knows no byte of the row
         for c in 0..row.len() {
             let d = self.v(i, c);
             if d != 0 {
@@ -45,6 +47,7 @@ pub trait Family {
     }
 
     // The product of u(i) and a row; digits past the row's end count as 0.
+    #[tactic(auto, using(digits::proofs::Sums::product_none, digits::proofs::Sums::product_more))]
     fn u_product(&self, i: usize, row: &[u8]) -> u8
         ensures { result ≡ product (vectors self.now).dim ((vectors self.now).u i) (at row.now) }
     {
@@ -72,9 +75,11 @@ pub trait Family {
 
     // The product of v(i) and the elements of all coordinates, which stand one after the other: the sum of v(i)c times the element
     // of c. Digits past the row's end count as 0.
+    #[tactic(auto, using(digits::proofs::RingSums::sum_start, digits::proofs::RingSums::sum_more))]
     fn v_product(&self, i: usize, elements: &[u8]) -> Element
         ensures { result.digits ≡ element_product (vectors self.now).dim ((vectors self.now).v i) elements.now }
     {
+        // a loop: its proof is found, that of a `fold` is not, since what a turn is given does not say how many came before
         let mut sum = Element::zero();
         for c in 0..self.dimension() {
             sum = sum + Element::read_at(elements, 6 * c).scaled(self.v(i, c));
@@ -88,6 +93,8 @@ pub trait Family {
         ensures product { result ≡ product (vectors self.now).dim ((vectors self.now).u i) (at query.now) }
         ensures spread { elements.new ≡ spread ((vectors self.now).u i) amount result elements.old }
     {
+        // families of words write these lines too, beside a faster way: a function for both would ask for all that the trait
+        // says of Self, and the body of one of its own methods cannot hand that on
         let e = self.u_product(i, query);
         self.spread(i, amount, usize::from(e), elements);
         e

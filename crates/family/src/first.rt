@@ -31,6 +31,9 @@ impl<F: Family> FirstPart<F> {
     }
 }
 
+// Each method asks for itself whether the position is in the first part: a helper that answers with the family or with nothing
+// would leave as many cases to tell apart.
+#[tactic(auto, using(crate::proofs::PastCount::past_count))]
 impl<F: Family> Family for FirstPart<F> {
     ghost vectors = { λ f. first_part f.count (F.Family.vectors f.family) };
 

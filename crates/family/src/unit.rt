@@ -20,7 +20,9 @@ pub struct UnitFamily {
 impl UnitFamily {
     // The unit family of a count from 1 to 4,096; any other is refused.
     pub fn new(count: usize) -> Result<UnitFamily, Fault>
-        ensures { MatchResult result (λ f. (limit_fault FamilyLayer 1 4096 count ≡ None) × (f.count ≡ count)) (λ e. limit_fault FamilyLayer 1 4096 count ≡ Some e) }
+        ensures { MatchResult result
+            (λ f. (limit_fault FamilyLayer 1 4096 count ≡ None) × (f.count ≡ count))
+            (λ e. limit_fault FamilyLayer 1 4096 count ≡ Some e) }
     {
         check_limits(Layer::Family, 1, 4096, count)?;
         Ok(UnitFamily { count })
@@ -49,6 +51,7 @@ impl Family for UnitFamily {
     }
 
     // Only coordinate i of u(i) is not 0.
+    #[tactic(auto, using(crate::proofs::PastCount::past_count, crate::specs::UnitsLemmas::unit_product))]
     fn u_product(&self, i: usize, row: &[u8]) -> u8 {
         if i < self.count {
             digit_at(row, i) % 6
@@ -57,6 +60,7 @@ impl Family for UnitFamily {
         }
     }
 
+    #[tactic(auto, using(crate::proofs::PastCount::past_count, crate::specs::UnitsLemmas::unit_spread))]
     fn spread(&self, i: usize, amount: u8, e: usize, elements: &mut [u8]) {
         if i < self.count {
             add_at(elements, 6 * i + e % 6, u32::from(amount));

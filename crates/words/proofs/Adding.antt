@@ -27,9 +27,6 @@ pub record Reached (v : ℕ → ℕ) (own : List ℕ) (k : ℕ) (xs ys : List �
   pub there : (i : ℕ) → i < k → at own i < length xs → at ys (at own i) ≡ added_at v xs (at own i)
   pub others : (c : ℕ) → ((i : ℕ) → i < k → at own i ≡ c → ⊥) → at ys c ≡ at xs c
 
-pub reached_none : (v : ℕ → ℕ) (own xs : List ℕ) → Reached v own 0 xs xs
-reached_none v own xs = record { there = λ i l b. absurd (not-suc-le-zero l); others = λ c h. refl }
-
 module _ (h q t : ℕ) (pos : 0 < q) (own : List ℕ) (is : own ≡ own_or_none h q t) (xs ys : List ℕ) where
   module _ (k d : ℕ) (inside : k < length own) (told : d ≡ weight h (size_at h q (at own k))) (reached : Reached (word_digit h q (weight h) t) own k xs ys) where
     -- an earlier place is another

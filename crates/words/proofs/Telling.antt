@@ -81,8 +81,8 @@ module _ (h q t : ℕ) (pos : 0 < q) (own : List ℕ) (is : own ≡ own_or_none 
   u_told c true r there one none = one refl ∙ sym (u_found c there.0 there.1 (eqb-true _ _ (there.2 0)))
   u_told c false r there one none = none refl ∙ sym (u_missing c (λ k l e. false≢true (sym (there k 0 (omega arith) l) ∙ eq-eqb _ _ e)))
 
-  pub u-product : (y : ℕ → ℕ) → product (word_dim h q) (word_digit h q (λ s. 1) t) y ≡ sum_by y own % 6
-  u-product y =
+  pub product_told : (y : ℕ → ℕ) → product (word_dim h q) (word_digit h q (λ s. 1) t) y ≡ sum_by y own % 6
+  product_told y =
       elim (cases_lt t (q ^ h)) [
         | inl l ↦ ap (λ a. a % 6) (own_product h q t pos l y ∙ ap (sum_by y) (sym (own_there l)))
         | inr l ↦

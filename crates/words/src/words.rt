@@ -41,6 +41,7 @@ impl Words {
     ghost use Rattle.words.specs.Sizes.{letters_of, alphabet_of};
 
     // A family of words of 1 to 5 letters from an alphabet of 2 to 16.
+    #[tactic(auto, using(crate::specs::Limits::count_few))]
     pub fn new(letters: usize, alphabet: usize) -> Result<Words, Fault>
         ensures cases { MatchResult result (λ _. words_fault letters alphabet ≡ None) (λ e. words_fault letters alphabet ≡ Some e) }
         ensures letters { IfOk result (λ w. letters_of w ≡ letters) }
@@ -73,6 +74,7 @@ impl Words {
 
     // What `spread_by_product` does where words have H letters and the rows reach all coordinates. The own coordinates are
     // found once for both.
+    #[tactic(auto, using(crate::proofs::Telling::own_lt, crate::proofs::Telling::own_small, crate::proofs::Telling::product_told))]
     fn spread_own<const H: usize>(
         &self,
         i: usize,
@@ -112,11 +114,13 @@ impl Family for Words {
         u8::from(self.own(i).contains(&c))
     }
 
+    #[tactic(auto, using(crate::proofs::Weighing::digit_weigh))]
     fn v(&self, i: usize, c: usize) -> u8 {
         self.u(i, c) * self.weight(c)
     }
 
     // Only the digits at the position's own coordinates change.
+    #[tactic(auto, using(crate::proofs::Adding::reached_all))]
     fn add_v(&self, i: usize, row: &mut [u8]) {
         let own = self.own(i);
         for c in own.iter() {
@@ -128,11 +132,14 @@ impl Family for Words {
     }
 
     // Only the digits at the position's own coordinates count.
+    #[tactic(auto, using(crate::proofs::Telling::product_told))]
     fn u_product(&self, i: usize, row: &[u8]) -> u8 {
         product_over(&self.own(i), row)
     }
 
-    // Only the elements at the position's own coordinates count.
+    // Only the elements at the position's own coordinates count. The sum is a loop's: with `fold` the check finds neither that the
+    // coordinates stay small nor what the sum is, which go by the place reached, as an invariant says.
+    #[tactic(auto, using(crate::proofs::Telling::own_small))]
     fn v_product(&self, i: usize, elements: &[u8]) -> Element {
         let own = self.own(i);
         let mut sum = Element::zero();
@@ -143,12 +150,13 @@ impl Family for Words {
     }
 
     // Only the elements at the position's own coordinates change.
+    #[tactic(auto, using(crate::proofs::Telling::own_small))]
     fn spread(&self, i: usize, amount: u8, e: usize, elements: &mut [u8]) {
         spread_over(&self.own(i), amount, e, elements);
     }
 
     // The compiler makes code for each number of letters. In rows that reach all coordinates that code need not look at each
-    // place whether it is there.
+    // place whether it is there. For shorter rows the trait's own body stands here again: nothing calls a body that is replaced.
     fn spread_by_product(&self, i: usize, amount: u8, query: &[u8], elements: &mut [u8]) -> u8 {
         if query.len() < self.dimension || elements.len() < 6 * self.dimension {
             let e = self.u_product(i, query);

@@ -9,8 +9,10 @@ use arrayvec::ArrayVec;
 
 impl Words {
     // The letters of a position, which are its digits in base q, the most significant first. They are bytes: in sums with wider
-    // ones the compiler puts a letter's definition for the letter, and multiplies more often.
+    // ones the compiler puts a letter's definition for the letter, and multiplies more often. That H is the number of letters is
+    // asked here, of `own_of` and of `spread_own`: it ties a field to a constant argument, which no field can be.
     #[inline(always)]
+    #[tactic(auto, using(crate::proofs::Lettering::written_all))]
     fn spell<const H: usize>(&self, t: usize) -> [u8; H]
         requires fits { self.now.letters ≡ H }
         requires small { t < 1048576 }
@@ -29,6 +31,7 @@ impl Words {
 
     // A number divided by the alphabet: multiplied by the inverse and shifted, which is exact for numbers so small. Divisions,
     // up to five for each position, took a quarter of the time of a dense host's answer.
+    #[tactic(auto, using(crate::proofs::Dividing::divided))]
     fn divided(&self, n: usize) -> usize
         requires { n < 1048576 }
         ensures { result ≡ n / self.now.alphabet }
@@ -40,6 +43,7 @@ impl Words {
     // position there are none. H is the number of letters: the compiler knows it, and writes the loops out. They stand in one
     // function, so that no clause has to say what is found in between.
     #[inline(always)]
+    #[tactic(auto, using(crate::specs::Limits::count_few, crate::proofs::Finding::singles_last, crate::proofs::Finding::pairs_last))]
     pub(super) fn own_of<const H: usize>(&self, t: usize) -> ArrayVec<usize, 16>
         requires { self.now.letters ≡ H }
         ensures { result.items ≡ own_or_none self.now.letters self.now.alphabet t }
@@ -53,19 +57,20 @@ impl Words {
         own.push(0);
         let mut block = 1;
         for letter in word {
-            own.push(block + *letter as usize);
+            own.push(block + usize::from(*letter));
             block += self.alphabet;
         }
         for (place, first) in word.iter().enumerate() {
             for second in &word[place + 1..] {
-                own.push(block + *first as usize * self.alphabet + *second as usize);
+                own.push(block + usize::from(*first) * self.alphabet + usize::from(*second));
                 block += self.alphabet * self.alphabet;
             }
         }
         own
     }
 
-    // The own coordinates, whatever the number of letters.
+    // The own coordinates, whatever the number of letters. `spread_by_product` has the same five arms: what they call takes a
+    // constant, which no closure does, and a macro for two places would be no plainer.
     pub(super) fn own(&self, t: usize) -> ArrayVec<usize, 16>
         ensures { result.items ≡ own_or_none self.now.letters self.now.alphabet t }
     {

@@ -1,7 +1,7 @@
 use Rattle.std.proofs.Common.{◌≡◌, ◌-◌, ◌*◌, ◌/◌, ◌%◌, set, sym, ap, ◌∙◌, subst, arith}
 use Rattle.std.proofs.Math.Nat.{mod-eq-sub-div-mul}
 use Rattle.std.proofs.lemmas.List.{length-set}
-use Rattle.words.proofs.Lettering.{Written, written_more, written_all}
+use Rattle.words.proofs.Lettering.{Written, written_more}
 use Rattle.words.proofs.words.Words.spell.Goals as goal
 
 pub loop-place-preserved : goal.loop-place-preserved
@@ -18,8 +18,3 @@ loop-place-preserved g c =
           (written_more w.letters w.alphabet c.args.t c.loop-place.place word rest
           (omega arith) (omega arith) (omega (arith, c.loop-place.invariant.0)) c.loop-place.invariant.1)),
     )
-
-pub returns : goal.returns
-returns g c =
-    written_all _ _ _ c.loop-place.place c.loop-place.word c.loop-place.rest (omega arith) (omega (arith, c.loop-place.invariant.0))
-    c.loop-place.invariant.1

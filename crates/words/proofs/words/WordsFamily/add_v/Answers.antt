@@ -1,5 +1,5 @@
 use Rattle.std.proofs.Common.{◌≡◌, ◌∙◌, arith}
-use Rattle.words.proofs.Adding.{reached_more, reached_past, reached_all}
+use Rattle.words.proofs.Adding.{reached_more, reached_past}
 use Rattle.words.proofs.words.WordsFamily.add_v.Goals as goal
 use Rattle.words.proofs.words.WordsFamily.add_v.Goals.{then-d-ne0, else-d-ne0}
 
@@ -19,9 +19,3 @@ loop-c-preserved c =
           (reached_past w.letters w.alphabet c.args.i (omega (arith, w.choice)) _ items c.args.row.now c.loop-c.row k c.weight-d.result (omega arith) c.weight-d.ensures
           c.loop-c.invariant (omega arith))
     ]
-
-pub returns : goal.returns
-returns c =
-    let w = c.args.self.now in
-    reached_all w.letters w.alphabet c.args.i (omega (arith, w.choice)) _ (c.deref-c-items.ensures.0 ∙ c.own-own.ensures) c.args.row.now c.loop-c.row
-    c.loop-c.c-index (omega arith) (omega arith) c.loop-c.auto.row c.loop-c.invariant

@@ -1,7 +1,6 @@
-use Rattle.std.proofs.Common.{◌*◌, ◌≤◌, sym, ◌∙◌, ap₂, mul-le-mul, arith}
+use Rattle.std.proofs.Common.{◌≤◌, mul-le-mul, arith}
 use Rattle.words.specs.Words.{size_at}
 use Rattle.words.specs.Limits.{weight_lt}
-use Rattle.words.proofs.Weighing.{digit_weigh}
 use Rattle.words.specs.WordFamily.{digit_lt}
 use Rattle.words.proofs.words.WordsFamily.v.Goals as goal
 
@@ -13,8 +12,3 @@ overflow_mul-result c =
     let digit : c.u.result ≤ 5 = omega (arith, c.u.ensures, told) in
     let heavy : c.weight.result ≤ 5 = omega (arith, c.weight.ensures, weight_lt c.args.self.now.letters (size_at c.args.self.now.letters c.args.self.now.alphabet c.args.c)) in
     omega (arith, mul-le-mul digit heavy)
-
-pub returns : goal.returns
-returns c =
-    ap₂ (λ a b. a * b) c.u.ensures c.weight.ensures
-    ∙ sym (digit_weigh c.args.self.now.letters c.args.self.now.alphabet c.args.i c.args.c)

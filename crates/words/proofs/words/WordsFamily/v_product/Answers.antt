@@ -5,18 +5,10 @@ use Rattle.digits.specs.Ring.{sum_of}
 use Rattle.digits.proofs.RingSums.{sum_start, sum_more}
 use Rattle.words.specs.Words.{weight, size_at}
 use Rattle.words.proofs.Multiplying.{own_elements}
-use Rattle.words.proofs.Telling.{own_small}
 use Rattle.words.proofs.words.WordsFamily.v_product.Goals as goal
 
 pub loop-c-init : goal.loop-c-init
 loop-c-init c = c.zero-sum.ensures ∙ sum_start _
-
-pub overflow_mul-c : goal.overflow_mul-c
-overflow_mul-c c =
-    let w = c.args.self.now in
-    let small = own_small w.letters w.alphabet c.args.i (omega (arith, w.choice)) _ (c.deref-c-items.ensures.0 ∙ c.own-own.ensures) w.short w.few
-    c.loop-c.c-index (omega arith) in
-    omega arith
 
 pub loop-c-preserved : goal.loop-c-preserved
 loop-c-preserved c =
