@@ -3,4 +3,3 @@ pub mod Pairing
 pub mod Products
 pub mod Room
 pub mod Sections
-pub mod Writing

@@ -2,16 +2,10 @@
 ghost use Rattle.std.specs.Prelude.{◌≡◌, ◌*◌, ◌≤◌, length, take, IfOk, OnOk};
 ghost use Rattle.std.specs.Result.{result_err};
 ghost use Rattle.books.specs.Numbers.{big_endian};
-ghost use Rattle.books.specs.Layout.{short_fault, limited_fault, second_fault, section_fault, end_fault, sections_fault};
+ghost use Rattle.books.specs.Layout.{short_fault, second_fault, section_fault, end_fault, sections_fault};
 
-use digits::{check_limits, first_above};
-use faults::{Fault, Layer};
-
-// How many bytes the dimension has.
-pub(crate) const DIMENSION_LEN: usize = 2;
-
-// How many bytes each of the two counts has.
-pub(crate) const COUNT_LEN: usize = 4;
+use digits::first_above;
+use faults::Fault;
 
 // What is left of a book, and the length of the whole book, which refusals name. After a refusal it is open what is left.
 #[derive(Drop)]
@@ -49,32 +43,33 @@ impl<'a> Reader<'a> {
         Ok(part)
     }
 
-    // Takes a number of so many bytes, the most significant first. One loop serves both lengths; `from_be_bytes` is there for
-    // each apart.
-    #[tactic(auto, using(crate::proofs::Writing::writing))]
-    fn number(&mut self, len: usize) -> Result<usize, Fault>
-        requires { len ≤ 4 }
-        ensures fault { result_err result ≡ short_fault len self.old.whole self.old.rest.now }
-        ensures value { IfOk result (λ n. n ≡ big_endian len self.old.rest.now) }
-        ensures left { OnOk result (Advanced len self.old self.new) }
+    // Takes the dimension: two bytes, the most significant first. Dimension and counts have a method each, and no loop serves
+    // both: so the bytes are named one by one, as the format lists them.
+    #[tactic(auto, unfolding(crate::specs::Numbers::big_endian))]
+    pub(crate) fn dimension(&mut self) -> Result<usize, Fault>
+        ensures fault { result_err result ≡ short_fault 2 self.old.whole self.old.rest.now }
+        ensures value { IfOk result (λ n. n ≡ big_endian 2 self.old.rest.now) }
+        ensures left { OnOk result (Advanced 2 self.old self.new) }
     {
-        let mut number = 0;
-        for byte in self.take(len)? {
-            number = number * 256 + usize::from(*byte);
-        }
-        Ok(number)
+        let [high, low, rest @ ..] = self.rest else {
+            return Err(Fault::length(self.whole));
+        };
+        self.rest = rest;
+        Ok(usize::from(u16::from_be_bytes([*high, *low])))
     }
 
-    // Takes a number of so many bytes, from 1 to the most that a book may have there.
-    pub(crate) fn limited_number(&mut self, len: usize, most: usize) -> Result<usize, Fault>
-        requires { len ≤ 4 }
-        ensures fault { result_err result ≡ limited_fault len most self.old.whole self.old.rest.now }
-        ensures value { IfOk result (λ n. n ≡ big_endian len self.old.rest.now) }
-        ensures left { OnOk result (Advanced len self.old self.new) }
+    // Takes a count: four bytes, likewise.
+    #[tactic(auto, unfolding(crate::specs::Numbers::big_endian))]
+    pub(crate) fn count(&mut self) -> Result<usize, Fault>
+        ensures fault { result_err result ≡ short_fault 4 self.old.whole self.old.rest.now }
+        ensures value { IfOk result (λ n. n ≡ big_endian 4 self.old.rest.now) }
+        ensures left { OnOk result (Advanced 4 self.old self.new) }
     {
-        let number = self.number(len)?;
-        check_limits(Layer::Family, 1, most, number)?;
-        Ok(number)
+        let [first, second, third, fourth, rest @ ..] = self.rest else {
+            return Err(Fault::length(self.whole));
+        };
+        self.rest = rest;
+        Ok(u32::from_be_bytes([*first, *second, *third, *fourth]) as usize)
     }
 
     // Takes so many digits. The first byte above 5 is refused with its place in the whole book.
@@ -94,7 +89,7 @@ impl<'a> Reader<'a> {
         ensures fault { result_err result ≡ second_fault first self.old.whole self.old.rest.now }
         ensures left { OnOk result (Advanced 4 self.old self.new) }
     {
-        let second = self.number(COUNT_LEN)?;
+        let second = self.count()?;
         if second == first {
             Ok(())
         } else {

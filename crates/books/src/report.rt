@@ -7,9 +7,10 @@ ghost use Rattle.books.specs.Layout.{layout_fault};
 ghost use Rattle.books.specs.Numbers.{count_of};
 ghost use Rattle.books.specs.Pairs.{bad_pair, pairs_fault, tried};
 
-use crate::reader::{COUNT_LEN, DIMENSION_LEN, Reader};
+use crate::reader::Reader;
 use crate::rows::Rows;
-use faults::Fault;
+use digits::check_limits;
+use faults::{Fault, Layer};
 
 // The highest dimension of a book.
 const MOST_COORDINATES: usize = 4096;
@@ -43,9 +44,11 @@ impl Report {
         ensures rows { IfOk result (λ rows. rows.bytes.now ≡ bytes.now) }
     {
         let mut reader = Reader::new(bytes);
-        let dimension = reader.limited_number(DIMENSION_LEN, MOST_COORDINATES)?;
+        let dimension = reader.dimension()?;
+        check_limits(Layer::Family, 1, MOST_COORDINATES, dimension)?;
         self.dimension = Some(dimension);
-        let count = reader.limited_number(COUNT_LEN, MOST_POSITIONS)?;
+        let count = reader.count()?;
+        check_limits(Layer::Family, 1, MOST_POSITIONS, count)?;
         self.positions = Some(count);
         reader.sections(count, dimension)?;
         Ok(Rows {

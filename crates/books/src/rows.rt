@@ -6,8 +6,13 @@ ghost use Rattle.books.specs.BookVectors.{digit_from, book_vectors};
 ghost use Rattle.books.specs.Layout.{layout_fault};
 ghost use Rattle.books.specs.Numbers.{count_of, dimension_of};
 
-use crate::reader::{COUNT_LEN, DIMENSION_LEN};
 use digits::dot;
+
+// How many bytes the dimension has.
+const DIMENSION_LEN: usize = 2;
+
+// How many bytes each of the two counts has.
+const COUNT_LEN: usize = 4;
 
 // Where the digits of the first section begin.
 const FIRST_START: usize = DIMENSION_LEN + COUNT_LEN;
