@@ -1,9 +1,7 @@
 -- What a recovery gives that is handed a family which is not refused and two fit sheets.
-use Rattle.std.proofs.Common.{◌≡◌, ℕ, List, length, Some, None, Ok, ap, subst, ◌∙◌, eq-eqb}
-use Rattle.std.proofs.lemmas.Bool.{cond-true}
-use Rattle.digits.specs.Refusals.{long_fault}
+use Rattle.std.proofs.Common.{◌≡◌, ℕ, List, Some, None, Ok, ap, subst, ◌∙◌}
 use Rattle.digits.proofs.DigitRows.{digits_pass}
-use Rattle.digits.proofs.Passing.{none_or_else}
+use Rattle.digits.proofs.Passing.{none_or_else, long_passes}
 use Rattle.family.specs.Vectors.{Vectors}
 use Rattle.scheme.specs.Answers.{Sheet, sheet_size}
 use Rattle.scheme.specs.Recovery.{found, read_entry}
@@ -13,10 +11,8 @@ use Rattle.scheme.proofs.Taken.{family_is}
 module _ (f : Vectors) (one two : List ℕ) (fit_one : Sheet f one) (fit_two : Sheet f two) where
   sheets_pass : sheets_fault f.dim one two ≡ None
   sheets_pass =
-      let long : (xs : List ℕ) → Sheet f xs → long_fault (sheet_size f.dim) xs ≡ None =
-      λ xs fit. cond-true _ None _ (eq-eqb (length xs) (sheet_size f.dim) fit.0) in
-      none_or_else _ _ (long one fit_one)
-      (none_or_else _ _ (long two fit_two)
+      none_or_else _ _ (long_passes (sheet_size f.dim) one fit_one.0)
+      (none_or_else _ _ (long_passes (sheet_size f.dim) two fit_two.0)
       (none_or_else _ _ (digits_pass one fit_one.1) (digits_pass two fit_two.1)))
 
   -- the entry, or the fault that the sheets are at odds

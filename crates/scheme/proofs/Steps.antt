@@ -1,18 +1,12 @@
 -- A session is opened on every tape of digits, and each call in turn has one step: by the tests that a request meets, and since nothing else is left open.
-use Rattle.std.proofs.Common.{◌≡◌, ℕ, eqb, eqb-true, List, length, None, Some, Option, refl, sym, ap, ◌∙◌}
+use Rattle.std.proofs.Common.{◌≡◌, ℕ, List, None, Some, Option, refl, sym, ap, ◌∙◌}
 use Rattle.faults.specs.declared.Fault.{Fault}
-use Rattle.digits.specs.Rows.{Digits, first_above}
-use Rattle.digits.proofs.DigitRows.{digits_pass}
-use Rattle.digits.proofs.Passing.{passed}
-use Rattle.digits.proofs.RowLaws.{above_none}
+use Rattle.digits.proofs.DigitRows.{digits_pass, digits_from}
 use Rattle.family.specs.Vectors.{Vectors}
 use Rattle.scheme.specs.Queries.{second_query, shift}
-use Rattle.scheme.specs.Sessions.{Session, opening_fault, digits_left, next_digits, request_fault, outcome, after_request, after_recovery, after_loss}
+use Rattle.scheme.specs.Sessions.{Session, digits_left, next_digits, request_fault, outcome, after_request, after_recovery, after_loss}
 use Rattle.scheme.specs.Runs.{State, ready, waiting, Call, request, recover, abandon, Event, asked, declined, recovered, abandoned, Step, takes, declines, recovers, abandons}
 use Rattle.scheme.specs.Steps.{InTurn, OneStep}
-
-opens : (tape : List ℕ) → opening_fault tape ≡ None → Digits tape
-opens tape h = above_none tape (eqb-true (first_above tape) (length tape) (passed (eqb (first_above tape) (length tape)) _ h))
 
 -- a request is taken, or declined with a fault
 request_step : (s : Session) (f : Vectors) (t l m : ℕ) (met : Option Fault) → request_fault s.count s.dim (digits_left s) f t l m ≡ met →
@@ -65,4 +59,4 @@ same_step (recovers s t turn f one two) other = recovery_told other
 same_step (abandons s t turn) other = abandonment_told other
 
 pub stepping : OneStep
-stepping = record { opens = opens; opens_all = digits_pass; some_step = some_step; same_step = same_step; no_other = no_other }
+stepping = record { opens = digits_from; opens_all = digits_pass; some_step = some_step; same_step = same_step; no_other = no_other }

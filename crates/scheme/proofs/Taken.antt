@@ -1,8 +1,8 @@
 -- What the tests of a request say that was taken.
-use Rattle.std.proofs.Common.{◌≡◌, ℕ, ◌<◌, ◌≤◌, None, eqb, ltb, leb, eqb-true, ltb-true, leb-true, arith}
+use Rattle.std.proofs.Common.{◌≡◌, ℕ, ◌<◌, ◌≤◌, None, ltb, leb, ltb-true, leb-true, arith}
 use Rattle.faults.specs.declared.Layer.TheVariants.{Session as SessionLayer}
 use Rattle.digits.specs.Refusals.{width_fault, equal_fault, below_fault}
-use Rattle.digits.proofs.Passing.{passed, or_else_none}
+use Rattle.digits.proofs.Passing.{passed, or_else_none, equal_is}
 use Rattle.family.specs.Vectors.{Vectors}
 use Rattle.scheme.specs.Sessions.{family_fault, tape_fault, request_fault}
 
@@ -10,7 +10,7 @@ use Rattle.scheme.specs.Sessions.{family_fault, tape_fault, request_fault}
 pub family_is : (n k : ℕ) (f : Vectors) → family_fault n k f ≡ None → (f.count ≡ n) × (f.dim ≡ k)
 family_is n k f h =
     let (count, dim) = or_else_none (equal_fault SessionLayer n f.count) _ h in
-    (eqb-true f.count n (passed (eqb f.count n) _ count), eqb-true f.dim k (passed (eqb f.dim k) _ dim))
+    (equal_is SessionLayer n f.count count, equal_is SessionLayer k f.dim dim)
 
 -- with the family f, for position t, on a session of count n and dimension k of which so many digits are left
 pub record Taken (n k left : ℕ) (f : Vectors) (t : ℕ) : Type 0 where

@@ -14,6 +14,7 @@ pub fn law_of_runs()
 // Holds in its contract that opening refuses exactly the rows that are no tape of digits; that a ready session takes every
 // request, and a waiting one every recovery and abandonment; that what such a call shows, and where it leads, is settled; and
 // that no state takes another call.
+#[tactic(auto, using(crate::proofs::Steps::stepping))]
 pub fn one_step()
     ensures { OneStep }
 {}
@@ -21,18 +22,21 @@ pub fn one_step()
 // Holds in its contract what a session keeps through a run, which is all that it was opened on, and what its numbers say of
 // the run that led to it: requests taken are lookups read plus lookups that ended unread, plus one while waiting, and the
 // place is the requests taken times the dimension.
+#[tactic(auto, using(crate::proofs::Counters::counting))]
 pub fn run_counters()
     ensures { RunCounters }
 {}
 
 // Holds in its contract that a table is told by its entries at positions, and that the sum of two tables answers with the
 // sum of the answers, so that hosts of two tables, one after the other on a sheet, are a host of the sum.
+#[tactic(auto, using(crate::proofs::Tables::tables))]
 pub fn hosts_of_tables()
     ensures { HostsOfTables }
 {}
 
 // Holds in its contract that answers and recovery are those of the scheme as it was published: a sheet is the value and the
 // derivative of the table's polynomial at the query's point, and recovery solves the four equations that two sheets give.
+#[tactic(auto, using(crate::proofs::Published::published))]
 pub fn as_published()
     ensures { AsPublished }
 {}

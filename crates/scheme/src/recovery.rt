@@ -3,7 +3,7 @@ ghost use Rattle.std.specs.Prelude.{◌≡◌};
 ghost use Rattle.scheme.specs.Recovery.{value, slope, sheets_weighed, found, read_entry};
 
 use crate::weighing::weighed;
-use digits::Element;
+use digits::{Element, rest_at};
 use family::Family;
 
 // X where the entry is 1.
@@ -17,14 +17,16 @@ pub fn value(sheet: &[u8]) -> Element
 }
 
 // Y2 and Y4: the sum over all coordinates c of v(t)c times the sheet's element of c.
+#[tactic(auto, using(crate::proofs::Elements::product_slope))]
 pub fn slope<F: Family>(family: &F, t: usize, sheet: &[u8]) -> Element
     ensures { result.digits ≡ slope (F.Family.vectors family.now) t sheet.now }
 {
     // past the element of the value
-    family.v_product(t, sheet.get(6..).unwrap_or(&[]))
+    family.v_product(t, rest_at(sheet, 6))
 }
 
-// W of two sheets, the first host's and the second's, for position t.
+// W of two sheets, the first host's and the second's, for position t. (Two sheets, and no struct of them: nothing is kept of the two
+// together, and each caller would make one for a single call.)
 #[tactic(auto, unfolding(crate::specs::Recovery::sheets_weighed))]
 pub fn sheets_weighed<F: Family>(family: &F, t: usize, one: &[u8], two: &[u8]) -> Element
     ensures { result.digits ≡ sheets_weighed (F.Family.vectors family.now) t one.now two.now }
