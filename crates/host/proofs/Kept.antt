@@ -1,22 +1,19 @@
 -- What a change host keeps when a change is replaced or added: positions below the count and apart, and digits.
 use Rattle.std.proofs.Common.{◌≡◌, ◌≢◌, ℕ, ◌<◌, ◌+◌, List, [], ◌∷◌, ◌++◌, length, get_or, set, take, Some, None, sym, refl, ap, ◌∙◌, arith}
 use Rattle.std.proofs.Math.Seq.{take-set-lt, map-set_same}
-use Rattle.std.proofs.lemmas.List.{get_or-take, get_or-map, map-append, length-map, length-take, take_more_set}
+use Rattle.std.proofs.lemmas.List.{get_or-take, get_or-map, map-append, length-map, take_more_set}
 use Rattle.std.proofs.lemmas.List.Elements.{All-push, All-set}
 use Rattle.std.proofs.lemmas.List.Quantifiers.{all_pairs_push}
 use Rattle.host.specs.declared.change.Change.{Change}
 use Rattle.host.specs.Changes.{digit_told, told_after, place_of, positions, Distinct, Below, Small}
-use Rattle.host.proofs.Told.{no_change, told_place, told_set, told_push}
+use Rattle.host.proofs.Told.{no_change, told_set, told_push}
 
 -- the change at place i with another digit
 abbrev pub with_digit : List Change → ℕ → Change → ℕ → Change
 with_digit xs i blank v = record { position = (get_or xs i blank).position; digit = v }
 
 -- the first n changes of an array, once that at place i has another digit
-module _ (a : List Change) (n p i v : ℕ) (blank : Change) (found : place_of (take n a) p ≡ Some i) where
-  within : i < n
-  within = omega (arith, (told_place (take n a) p i blank found).1, length-take n a)
-
+module _ (a : List Change) (n i v : ℕ) (blank : Change) (within : i < n) where
   replaced : take n (set a i (with_digit a i blank v)) ≡ set (take n a) i (with_digit (take n a) i blank v)
   replaced =
       take-set-lt n a i (with_digit a i blank v) within
@@ -35,8 +32,9 @@ module _ (a : List Change) (n p i v : ℕ) (blank : Change) (found : place_of (t
   pub apart_replaced : Distinct (take n a) → Distinct (take n (set a i (with_digit a i blank v)))
   apart_replaced h = rw same_positions h
 
-  pub told_replaced : (q : ℕ) → digit_told (take n (set a i (with_digit a i blank v))) q ≡ told_after (digit_told (take n a)) p v q
-  told_replaced q = rw replaced (told_set (take n a) p i v blank found q)
+  pub told_replaced : (p : ℕ) → place_of (take n a) p ≡ Some i →
+      (q : ℕ) → digit_told (take n (set a i (with_digit a i blank v))) q ≡ told_after (digit_told (take n a)) p v q
+  told_replaced p found q = rw replaced (told_set (take n a) p i v blank found q)
 
 -- the first n + 1, once a change stands behind the first n
 module _ (a : List Change) (n : ℕ) (c : Change) (room : n < length a) where

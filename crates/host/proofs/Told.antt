@@ -4,6 +4,7 @@ use Rattle.std.specs.List.{position_or_len, Contains}
 use Rattle.std.proofs.lemmas.Bool.Decides.{nat_tests}
 use Rattle.std.proofs.lemmas.List.{get_or-map, length-map}
 use Rattle.std.proofs.lemmas.List.Folds.{find_at, find-set, find_past, find-append}
+use Rattle.std.proofs.lemmas.List.Quantifiers.{position-Some}
 use Rattle.std.proofs.lemmas.List.Sums.{passes_at_first, fails_before_first}
 use Rattle.std.proofs.lemmas.Option.{slice_get_past, slice_get-get_or}
 use Rattle.host.specs.declared.change.Change.{Change}
@@ -37,21 +38,18 @@ told_none xs p others =
     let other = others j blank in
     grind (arith, nat_tests)
 
--- at its place a change has its position, and is told
-pub told_place : (xs : List Change) (p i : ℕ) (d : Change) → place_of xs p ≡ Some i →
-    (i ≡ position_or_len (stands_at p) xs) × (i < length xs)
-    × ((get_or xs i d).position ≡ p) × (digit_told xs p ≡ Some (get_or xs i d).digit)
-told_place xs p i d e =
+-- at its place a change is told
+pub told_some : (xs : List Change) (p i : ℕ) (d : Change) → place_of xs p ≡ Some i → digit_told xs p ≡ Some (get_or xs i d).digit
+told_some xs p i d e =
     let first = find_at (stands_at p) xs in
     let within = slice_get-get_or xs (position_or_len (stands_at p) xs) d in
-    let passes = passes_at_first (stands_at p) xs d in
-    (grind (arith, nat_tests), grind (arith, nat_tests), grind (arith, nat_tests), grind (arith, nat_tests))
+    grind (arith, nat_tests)
 
 -- with another digit at its place, that digit is told at its position, and elsewhere what was told before
 pub told_set : (xs : List Change) (p i v : ℕ) (d : Change) → place_of xs p ≡ Some i →
     (q : ℕ) → digit_told (set xs i (record { position = (get_or xs i d).position; digit = v })) q ≡ told_after (digit_told xs) p v q
 told_set xs p i v d e q =
-    let at_place = told_place xs p i d e in
+    let at_place = position-Some (stands_at p) xs i d e in
     let c : Change = record { position = (get_or xs i d).position; digit = v } in
     let here = find-set (stands_at p) xs i c in
     let there = find_past (stands_at q) xs i c d in
@@ -65,7 +63,17 @@ told_push xs p v e q =
     let both = find-append (stands_at q) xs (c ∷ []) in
     grind (arith, nat_tests)
 
--- positions apart, each change is told
+-- positions apart, no two changes have the same
+pub apart_at : (xs : List Change) → Distinct xs → (k j : ℕ) (d e : Change) → k < j → j < length xs →
+    (get_or xs k d).position ≢ (get_or xs j e).position
+apart_at xs apart k j d e h l =
+    let of_k = get_or-map (λ (c : Change). c.position) xs k d 0 (omega arith) in
+    let of_j = get_or-map (λ (c : Change). c.position) xs j e 0 l in
+    let size = length-map xs (λ (c : Change). c.position) in
+    let other = apart k j 0 h (omega arith) in
+    omega arith
+
+-- so each change is told
 pub told_each : (xs : List Change) → Distinct xs → (k : ℕ) (d : Change) → k < length xs →
     digit_told xs (get_or xs k d).position ≡ Some (get_or xs k d).digit
 told_each xs apart k d l =
@@ -75,10 +83,7 @@ told_each xs apart k d l =
     let found = slice_get-get_or xs j d in
     let passes = passes_at_first (stands_at p) xs d in
     let fails = fails_before_first (stands_at p) xs k d in
-    let of_j = get_or-map (λ (c : Change). c.position) xs j d 0 in
-    let of_k = get_or-map (λ (c : Change). c.position) xs k d 0 l in
-    let size = length-map xs (λ (c : Change). c.position) in
-    let other = apart j k 0 in
+    let other = apart_at xs apart j k d d in
     grind (arith, nat_tests)
 
 -- a change stands in the list exactly where it is told

@@ -5,6 +5,7 @@ ghost use Rattle.faults.specs.declared.Layer.TheVariants.{Host as HostLayer};
 ghost use Rattle.host.specs.Changes.{Distinct, Below, Small};
 
 use crate::change::Change;
+use crate::host::MOST_ENTRIES;
 use digits::check_limits;
 use faults::{Fault, Layer};
 
@@ -22,11 +23,13 @@ const MOST: usize = 64;
 pub struct ChangeHost {
     count: usize,
     held: usize,
+    // An array and a number beside it, and no `ArrayVec`, which is not `Copy`: so a host can be copied whole.
     changes: [Change; MOST],
     ghost some: { 1 ≤ count },
     ghost few: { count ≤ 1048576 },
     ghost sized: { length changes ≡ 64 },
     ghost room: { held ≤ 64 },
+    // Three facts, and no record of them: each is kept by a lemma of its own, and not all who use one need the others.
     ghost below: { Below count (take held changes) },
     ghost small: { Small (take held changes) },
     ghost apart: { Distinct (take held changes) },
@@ -42,7 +45,7 @@ impl ChangeHost {
             × (change_count h ≡ count) × (number_held h ≡ 0) × ((p : ℕ) → told_by h p ≡ None))
             (λ e. limit_fault HostLayer 1 1048576 count ≡ Some e) }
     {
-        check_limits(Layer::Host, 1, 1048576, count)?;
+        check_limits(Layer::Host, 1, MOST_ENTRIES, count)?;
         Ok(ChangeHost {
             count,
             held: 0,

@@ -5,7 +5,7 @@ ghost use Rattle.host.specs.Dense.{dense_fault, dense_holding};
 ghost use Rattle.host.specs.DenseLemmas.{dense_held};
 
 use crate::answering::{add_entry, check_answer};
-use crate::host::Host;
+use crate::host::{Host, MOST_ENTRIES};
 use digits::{check_digits, check_limits, digit_at};
 use family::Family;
 use faults::{Fault, Layer};
@@ -28,7 +28,7 @@ impl<'a> Dense<'a> {
             (λ h. (dense_fault table.now ≡ None) × (⟦<Dense<'a> as Host>⟧.holding h ≡ dense_holding table.now))
             (λ e. dense_fault table.now ≡ Some e) }
     {
-        check_limits(Layer::Host, 1, 1048576, table.len())?;
+        check_limits(Layer::Host, 1, MOST_ENTRIES, table.len())?;
         check_digits(table)?;
         Ok(Dense { table })
     }

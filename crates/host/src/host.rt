@@ -6,6 +6,9 @@ ghost use Rattle.host.specs.Holdings.{Holding, WellHeld, answer_fault};
 use family::Family;
 use faults::Fault;
 
+// How many entries a table has at most.
+pub const MOST_ENTRIES: usize = 1_048_576;
+
 // A host means a count n and a table of n entries, each a digit, and answers queries from them. (The usual words are server
 // and database.) What this interface promises is the answering rule: whatever keeps it is a host, and what is proved of code
 // that takes any host is proved from this rule alone.
@@ -22,7 +25,8 @@ pub trait Host {
         ensures { MatchResult result
             (λ _. (answer_fault (holding self.now).count (F.Family.vectors family.now) query.now sheet.old ≡ None)
             × (sheet.new ≡ answered (F.Family.vectors family.now) (holding self.now).table query.now sheet.old))
-            (λ e. (answer_fault (holding self.now).count (F.Family.vectors family.now) query.now sheet.old ≡ Some e) × (sheet.new ≡ sheet.old)) };
+            (λ e. (answer_fault (holding self.now).count (F.Family.vectors family.now) query.now sheet.old ≡ Some e)
+            × (sheet.new ≡ sheet.old)) };
 
     ghost held_well: { (h : Self) → WellHeld (holding h) };
 }

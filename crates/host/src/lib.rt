@@ -13,5 +13,5 @@ pub mod sum;
 pub use change::Change;
 pub use change_host::ChangeHost;
 pub use dense::Dense;
-pub use host::Host;
+pub use host::{Host, MOST_ENTRIES};
 pub use sum::Sum;

@@ -19,7 +19,9 @@ impl Host for ChangeHost {
         self.count
     }
 
-    // Only the positions of changes can hold more than 0, and where the digit is 0 nothing is added.
+    // Only the positions of changes can hold more than 0, and where the digit is 0 nothing is added. The dense host's loop goes over
+    // places and digits and this one over records: what they share is called, and one loop for both over an iterator of pairs
+    // would be no plainer.
     fn answer<F: Family>(&self, family: &F, query: &[u8], sheet: &mut [u8]) -> Result<(), Fault> {
         check_answer(self.count, family, query, sheet)?;
         for change in &self.changes[..self.held] {

@@ -1,5 +1,5 @@
 // Setting a change.
-ghost use Rattle.std.specs.Prelude.{◌≡◌, ℕ, Some, None, MatchResult};
+ghost use Rattle.std.specs.Prelude.{◌≡◌, ◌<◌, ℕ, Some, None, IfSome, MatchResult};
 
 use crate::change::Change;
 use crate::change_host::{ChangeHost, MOST};
@@ -10,9 +10,11 @@ impl ChangeHost {
     ghost use Rattle.host.specs.Changes.{place_of, set_fault, told_after, held_after};
     ghost use Rattle.host.specs.ChangeHosts.{change_count, number_held, changes_held, told_by};
 
-    // The place of the change at a position, if one is held there.
+    // The place of the change at a position, if one is held there. (`told` looks for the change itself: by its place it would have an
+    // index more to show within.)
     fn place(&self, position: usize) -> Option<usize>
-        ensures { result ≡ place_of (changes_held self.now) position }
+        ensures first { result ≡ place_of (changes_held self.now) position }
+        ensures within { IfSome result (λ i. i < number_held self.now) }
     {
         self.changes[..self.held]
             .iter()

@@ -8,6 +8,7 @@ impl ChangeHost {
     ghost use Rattle.host.specs.ChangeHosts.{change_count, told_by};
 
     // The digit of the change at a position, or none where no change is held there; past the count none is.
+    #[tactic(auto, using(crate::specs::ChangesLemmas::none_past))]
     pub fn told(&self, position: usize) -> Option<u8>
         ensures value { result ≡ told_by self.now position }
         ensures digit { IfSome result (λ d. d < 6) }
@@ -19,7 +20,8 @@ impl ChangeHost {
             .map(|c| c.digit)
     }
 
-    // The table's entry at a position: the digit of the change there, else 0.
+    // The table's entry at a position: the digit of the change there, else 0. By a `match`: a table of zeros and changes
+    // has these two cases.
     pub fn entry(&self, position: usize) -> u8
         ensures { result ≡ table_of (told_by self.now) position }
     {
