@@ -1,16 +1,13 @@
 -- What the tests of a round say that was played.
-use Rattle.std.proofs.Common.{◌≡◌, ℕ, None, List, length, eqb, eqb-true}
+use Rattle.std.proofs.Common.{◌≡◌, ℕ, None, length}
 use Rattle.faults.specs.declared.Layer.TheVariants.{Host as HostLayer}
 use Rattle.digits.specs.Refusals.{long_fault, equal_fault}
-use Rattle.digits.proofs.Passing.{passed, or_else_none, none_or_else}
+use Rattle.digits.proofs.Passing.{or_else_none, none_or_else, equal_is, long_is}
 use Rattle.scheme.specs.Answers.{sheet_size}
 use Rattle.scheme.specs.Sessions.{digits_left, family_fault, request_fault}
 use Rattle.scheme.proofs.Taken.{Taken, taken}
 use Rattle.rounds.specs.Lent.{Contents}
 use Rattle.rounds.specs.Rounds.{Round, hosts_fault, rows_fault, round_fault}
-
-long_is : (n : ℕ) (xs : List ℕ) → long_fault n xs ≡ None → length xs ≡ n
-long_is n xs h = eqb-true (length xs) n (passed (eqb (length xs) n) _ h)
 
 -- each row has its length
 pub record Long (k : ℕ) (rows : Contents) : Type 0 where
@@ -51,8 +48,8 @@ fit r h =
     let (second, sheets) = or_else_none (long_fault k r.rows.second_query) _ others in
     let takes = none_or_else _ _ family (none_or_else _ _ first (none_or_else _ _ second last)) in
     record {
-      first_count = eqb-true r.first_host.count r.family.count (passed (eqb r.first_host.count r.family.count) _ one);
-      second_count = eqb-true r.second_host.count r.family.count (passed (eqb r.second_host.count r.family.count) _ two);
+      first_count = equal_is HostLayer r.family.count r.first_host.count one;
+      second_count = equal_is HostLayer r.family.count r.second_host.count two;
       rows = long k r.rows rows;
       takes = takes;
       requested = taken n k (digits_left r.session) r.family r.position (length r.rows.first_query) (length r.rows.second_query) takes;

@@ -30,7 +30,9 @@ fn ask<F: Family, H: Host>(host: &H, family: &F, query: &[u8], sheet: &mut [u8])
 // A whole lookup: a request for a position, each host's answer to its query into a zeroed sheet, and the recovery. It gives the
 // entry, with how many digits the rows carried each way. What a request or a host would refuse is refused before a tape digit is
 // taken or a byte written, and the session comes back as it was. Where the sheets are at odds, the rows stay written, and the
-// lookup counts as unread.
+// lookup counts as unread. (Loose parameters, and no struct of them with methods: each caller would make one for a single call, and
+// the clauses would reach every part of it by a longer name. Each clause says first what r is, since it sees no other's names.)
+#[tactic(auto, using(scheme::specs::Runs::declines, crate::proofs::Asked::second_is_query))]
 pub fn round<F: Family, A: Host, B: Host>(
     session: Ready,
     family: &F,
@@ -63,6 +65,7 @@ pub fn round<F: Family, A: Host, B: Host>(
         round_fault r ≡ None → ((i : ℕ) → i < r.family.count → r.first_host.table i ≡ r.second_host.table i) →
         result.1 ≡ Ok (record { entry = r.first_host.table r.position; carried = 14 * r.family.dim + 12 }) }
 {
+    // by hand, since `?` hands no session back
     if let Err(fault) = check_round(&session, family, first_host, second_host, position, &rows) {
         return (session, Err(fault));
     }
@@ -73,9 +76,9 @@ pub fn round<F: Family, A: Host, B: Host>(
         second_sheet,
     } = rows;
     let carried = first_query.len() + second_query.len() + first_sheet.len() + second_sheet.len();
-    let Ok(waiting) = session.request(family, position, first_query, second_query) else {
-        unreachable!()
-    };
+    let waiting = session
+        .request(family, position, first_query, second_query)
+        .unwrap();
     ask(first_host, family, first_query, first_sheet);
     ask(second_host, family, second_query, second_sheet);
     let (session, outcome) = waiting.recover(family, first_sheet, second_sheet);

@@ -1,10 +1,10 @@
 -- What a call of the code did is a step of the law of all runs.
-use Rattle.std.proofs.Common.{◌≡◌, ℕ, ◌+◌, ◌%◌, List, length, drop, None, Result, eqb, eqb-true, refl, sym, ap, ap₂, ◌∙◌, arith, length-take, length-drop}
+use Rattle.std.proofs.Common.{◌≡◌, ℕ, ◌+◌, ◌%◌, List, length, drop, None, Result, refl, sym, ap, ap₂, ◌∙◌, arith, length-take, length-drop}
 use Rattle.std.proofs.lemmas.List.FromFn.{fill_by_all}
 use Rattle.faults.specs.declared.Fault.{Fault}
 use Rattle.digits.specs.Rows.{at, row}
 use Rattle.digits.specs.Refusals.{width_fault}
-use Rattle.digits.proofs.Passing.{passed, or_else_none}
+use Rattle.digits.proofs.Passing.{or_else_none, width_is}
 use Rattle.family.specs.Vectors.{Vectors}
 use Rattle.scheme.proofs.Taken.{taken}
 use Rattle.scheme.specs.Queries.{second_query, shift}
@@ -17,7 +17,7 @@ widths n k left f t l m e =
     let (family, rest) = or_else_none (family_fault n k f) _ e in
     let (first, more) = or_else_none (width_fault k l) _ rest in
     let (second, last) = or_else_none (width_fault k m) _ more in
-    (eqb-true l k (passed (eqb l k) _ first), eqb-true m k (passed (eqb m k) _ second))
+    (width_is k l first, width_is k m second)
 
 -- what such a request writes: as many tape digits as a query has are the next ones, and displaced they are the second query
 pub asks_first : (s : Session) (f : Vectors) (t l m : ℕ) (z : List ℕ) → request_fault s.count s.dim (digits_left s) f t l m ≡ None →

@@ -3,29 +3,21 @@ ghost use Rattle.std.specs.Prelude.{◌≡◌, ◌+◌, ◌%◌, length};
 ghost use Rattle.digits.specs.Rows.{at, row};
 ghost use Rattle.scheme.specs.Queries.{shift};
 
-use digits::digit_at;
+use digits::reduce;
 use family::Family;
 
 // Writes digits over a row, as far as the row goes; where the digits end, zeros.
 fn copy(digits: &[u8], target: &mut [u8])
     ensures { target.new ≡ row (length target.old) (at digits.now) }
 {
-    for c in 0..target.len() {
-        target[c] = digit_at(digits, c);
-    }
-}
-
-// Takes each byte of a row modulo 6.
-fn reduce(digits: &mut [u8])
-    ensures { digits.new ≡ row (length digits.old) (λ c. at digits.old c % 6) }
-{
-    for c in 0..digits.len() {
-        digits[c] %= 6;
-    }
+    let n = digits.len().min(target.len());
+    let (start, rest) = target.split_at_mut(n);
+    start.copy_from_slice(&digits[..n]);
+    rest.fill(0);
 }
 
 // Writes the two queries for a position, made with these tape digits, and gives the shift. Past the last tape digit each counts
-// as 0, and what lies past a row's end is not written.
+// as 0, and what lies past a row's end is not written. (Rows one by one, as at `Ready::request`.)
 pub fn write_queries<F: Family>(
     family: &F,
     t: usize,

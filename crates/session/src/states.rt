@@ -11,7 +11,8 @@ mod requesting;
 mod telling;
 
 // What a session keeps: its family's count and dimension, its tape (the client's randomness) with the place up to which it is
-// used, and how many requests were taken, how many lookups were read, and how many ended unread.
+// used, and how many requests were taken, how many lookups were read, and how many ended unread. (Three numbers, and no `Counters`: each
+// is moved on by itself, and what the types below say of them names them one by one.)
 #[derive(Drop)]
 struct Kept {
     count: usize,
@@ -41,7 +42,8 @@ pub struct Waiting {
     ghost pending: { kept.taken ≡ kept.read + kept.unread + 1 },
 }
 
-// A lookup that was requested: for which position, with which shift, and whether it was recovered or abandoned since.
+// A lookup that was requested: for which position, with which shift, and whether it was recovered or abandoned since. (That it
+// may not be dropped at all would refuse the same programs; the mark makes it a fact that they lack.)
 struct Lookup {
     position: usize,
     shift: u8,
@@ -61,6 +63,15 @@ pub struct Counters {
     pub taken: usize,
     pub read: usize,
     pub unread: usize,
+}
+
+// The reason alone, for a caller who lets the session go.
+impl From<Refused> for Fault {
+    ghost from_gives = { λ refused fault. fault ≡ refused.fault };
+
+    fn from(refused: Refused) -> Fault {
+        refused.fault
+    }
 }
 
 impl Waiting {

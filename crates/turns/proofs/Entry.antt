@@ -1,5 +1,5 @@
 -- The calls of a first lookup are a run, of which the law tells the entry.
-use Rattle.std.proofs.Common.{◌≡◌, ℕ, ◌<◌, List, [], ◌∷◌, length, replicate, None, Ok, Result, sym, refl, ap, ◌∙◌, IfOk}
+use Rattle.std.proofs.Common.{◌≡◌, ℕ, ◌<◌, List, [], ◌∷◌, length, replicate, Some, None, Ok, Err, Result, MatchResult, sym, refl, ap, ◌∙◌, rules, IfOk, OnOk}
 use Rattle.std.proofs.lemmas.List.{length-replicate}
 use Rattle.faults.specs.declared.Fault.{Fault}
 use Rattle.digits.specs.Rows.{Digits}
@@ -13,13 +13,17 @@ use Rattle.scheme.proofs.Tables.{tables}
 use Rattle.host.specs.Holdings.{answer_fault}
 use Rattle.host.proofs.Fitness.{fit_from}
 
--- what an answer leaves in a row of zeros, of which nothing was refused
-pub sheet_is : (n m : ℕ) (f : Vectors) (a : ℕ → ℕ) (p before after : List ℕ) → before ≡ replicate m 0 →
-    answer_fault n f p before ≡ None → after ≡ answered f a p before → after ≡ sheet_of f a p
-sheet_is n m f a p before after zero passed is =
-    let long : length before ≡ sheet_size f.dim = (fit_from n f p before passed).sheet_fits.0 in
+-- what a host's answer into a row of zeros leaves there, unless it refuses: the sheet of its table
+pub given : (n m : ℕ) (f : Vectors) (a : ℕ → ℕ) (p before after : List ℕ) (result : Result (Unit {0}) Fault) → before ≡ replicate m 0 →
+    MatchResult result
+    (λ _. (answer_fault n f p before ≡ None) × (after ≡ answered f a p before))
+    (λ e. (answer_fault n f p before ≡ Some e) × (after ≡ before)) →
+    OnOk result (after ≡ sheet_of f a p)
+given n m f a p before after (Ok x) zero done =
+    let long : length before ≡ sheet_size f.dim = (fit_from n f p before done.0).sheet_fits.0 in
     let size : m ≡ sheet_size f.dim = sym (length-replicate m 0) ∙ ap length (sym zero) ∙ long in
-    is ∙ ap (answered f a p) (zero ∙ ap (λ k. replicate k 0) size ∙ zeros (sheet_size f.dim))
+    done.1 ∙ ap (answered f a p) (zero ∙ ap (λ k. replicate k 0) size ∙ zeros (sheet_size f.dim))
+given n m f a p before after (Err e) zero done = search rules
 
 -- A request and the recovery after it are a run. Where the tables agree, the second host is one of the first one's table too.
 pub entry : (f : Vectors) → MatchingFamily f → Recovers f → (tape : List ℕ) → Digits tape → (s : Session) → s ≡ opened f tape →

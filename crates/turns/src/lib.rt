@@ -17,7 +17,8 @@ use faults::Fault;
 pub use first::first_lookup;
 use session::{Ready, Refused};
 
-// A lookup that is read: a request and, if it is taken, its recovery.
+// A lookup that is read: a request and, if it is taken, its recovery. (Here and below a contract tells the refused case in full, so that
+// each is read by itself.)
 #[tactic(auto, using(crate::proofs::Chains::one_call))]
 pub fn look_up<F: Family>(
     ready: Ready,
@@ -116,11 +117,7 @@ pub fn ask_last<F: Family>(
         (λ e. (refusal (ready_session ready) (F.Family.vectors family.now) position (length first.old) (length second.old) ≡ Some e)
         × (first.new ≡ first.old) × (second.new ≡ second.old)) }
 {
-    match ready.request(family, position, first, second) {
-        Ok(waiting) => {
-            let _ = waiting.abandon();
-            Ok(())
-        }
-        Err(refused) => Err(refused.fault),
-    }
+    let last = ready.request(family, position, first, second)?;
+    let _ = last.abandon();
+    Ok(())
 }

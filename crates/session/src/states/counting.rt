@@ -70,7 +70,7 @@ impl Kept {
         self.taken += 1;
     }
 
-    // A lookup that was read.
+    // A lookup that was read. (Two functions, and no flag for which counter: so a call says which.)
     pub(crate) fn end_read(&mut self)
         requires { self.old.read + self.old.unread + 1 ≤ self.old.taken }
         ensures { kept_session self.new ≡ after_reading (kept_session self.old) }

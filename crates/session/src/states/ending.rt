@@ -22,6 +22,7 @@ impl Waiting {
     }
 
     // Reads the entry from two sheets, or refuses. Either way the lookup is over, and the session is ready.
+    #[tactic(auto, using(crate::proofs::Stepping::step_recovered))]
     pub fn recover<F: Family>(
         self,
         family: &F,
@@ -35,6 +36,7 @@ impl Waiting {
     {
         let outcome = self.read(family, one, two);
         let mut kept = self.spend();
+        // by hand: which counter moves is said by a call of its own
         match outcome {
             Ok(_) => kept.end_read(),
             Err(_) => kept.end_unread(),
@@ -43,6 +45,7 @@ impl Waiting {
     }
 
     // Gives the lookup up.
+    #[tactic(auto, using(crate::proofs::Stepping::step_abandoned))]
     pub fn abandon(self) -> Ready
         ensures after { ready_session result ≡ after_loss (waiting_session self) }
         ensures step { Step (waiting_state self) abandon abandoned (ready_state result) }

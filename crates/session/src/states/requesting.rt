@@ -45,7 +45,9 @@ impl Ready {
     }
 
     // Writes the two queries of a lookup for a position, with the next digits of the tape. The session then waits. Refused, it
-    // comes back as it was, and nothing is written.
+    // comes back as it was, and nothing is written. (The two rows come one by one: of a vector that a caller lends by way of a struct a
+    // proof would know nothing afterwards.)
+    #[tactic(auto, using(scheme::specs::Runs::declines))]
     pub fn request<F: Family>(
         self,
         family: &F,
@@ -59,13 +61,15 @@ impl Ready {
             × (second.new ≡ second_query (F.Family.vectors family.now) position (next_digits (ready_session self)))
             × (waiting_state w ≡ waiting (after_request (ready_session self)) position
             (shift (F.Family.vectors family.now) position (next_digits (ready_session self)))))
-            (λ r. (refusal (ready_session self) (F.Family.vectors family.now) position (length first.old) (length second.old) ≡ Some r.fault)
+            (λ r.
+            (refusal (ready_session self) (F.Family.vectors family.now) position (length first.old) (length second.old) ≡ Some r.fault)
             × (r.session ≡ self) × (first.new ≡ first.old) × (second.new ≡ second.old)) }
         ensures step { Step (ready_state self)
             (request (F.Family.vectors family.now) position (length first.old) (length second.old))
             (request_shown result first.new second.new) (request_leads result) }
         ensures pending { IfOk result Pending }
     {
+        // by hand: `?` makes a refusal of the fault alone, and this one hands the session back
         if let Err(fault) = self.check_request(family, position, first, second) {
             return Err(Refused {
                 session: self,

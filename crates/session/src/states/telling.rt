@@ -1,4 +1,5 @@
-// What a session tells of itself, ready or waiting.
+// What a session tells of itself, ready or waiting: what it keeps, told by each of the two in its own words. (A trait for both would
+// say no less, and its laws would come on top.)
 ghost use Rattle.std.specs.Prelude.{◌≡◌, ◌+◌};
 ghost use Rattle.scheme.specs.Sessions.{digits_left};
 

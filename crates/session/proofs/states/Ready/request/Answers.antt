@@ -1,14 +1,11 @@
 use Rattle.std.proofs.Common.{◌≡◌, None, rules, length, refl, ◌∙◌, ap₂}
 use Rattle.scheme.specs.Queries.{second_query, shift}
-use Rattle.scheme.specs.Runs.{waiting, declines}
+use Rattle.scheme.specs.Runs.{waiting}
 use Rattle.scheme.specs.Sessions.{next_digits}
 use Rattle.session.specs.States.{ready_session}
 use Rattle.session.specs.Calls.{refusal}
 use Rattle.session.proofs.Stepping.{asks_first, asks_second, step_taken}
 use Rattle.session.proofs.states.Ready.request.Goals as goal
-
-pub returns-in-Err-clause-step : goal.returns-in-Err-clause-step
-returns-in-Err-clause-step g c = declines _ _ _ _ _ _ c.in-Err.ensures
 
 pub returns : goal.returns
 returns g c =
