@@ -1,7 +1,6 @@
 pub mod Parsing
 pub mod Fielding
 pub mod Forms
-pub mod Spacing
 pub mod Saturating
 pub mod Alike
 pub mod Cutting

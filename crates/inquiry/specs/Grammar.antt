@@ -1,5 +1,5 @@
 -- The grammar of an inquiry: which bytes it is read from, and what they say.
-use Rattle.std.specs.Prelude.{ℕ, Bool, true, false, cond, ◌&&◌, List, [], ◌∷◌, length, Some, None, Option, option_and_then, ◌==◌, nat_le, nat_lt}
+use Rattle.std.specs.Prelude.{ℕ, Bool, true, false, cond, ◌&&◌, List, [], ◌∷◌, length, Some, None, Option, option_and_then, slice_index, ◌==◌, nat_le, nat_lt}
 use Rattle.std.specs.Char.{is_ascii_digit}
 use Rattle.std.specs.List.{list_all, slice_split}
 use Rattle.std.specs.Str.Parse.{digits_value}
@@ -27,14 +27,9 @@ abbrev pub line_numbers : List ℕ → Option (List ℕ)
 line_numbers [] = Some []
 line_numbers (b ∷ bs) = numbers_of (parts_at 32 (b ∷ bs))
 
--- a line of one number, and of two
-abbrev pub one_number : Option (List ℕ) → Option ℕ
-one_number (Some (n ∷ [])) = Some n
-one_number _ = None
-
-abbrev pub two_numbers : Option (List ℕ) → Option (ℕ × ℕ)
-two_numbers (Some (m ∷ n ∷ [])) = Some (m, n)
-two_numbers _ = None
+-- a line of exactly so many numbers
+abbrev pub exactly : ℕ → Option (List ℕ) → Option (List ℕ)
+exactly n numbers = option_and_then (λ ns. cond (length ns == n) (Some ns) None) numbers
 
 -- What an inquiry says: a family of words, a position in it, a host's table, and a tape.
 pub record Parts : Type 0 where
@@ -52,11 +47,11 @@ o >>= f = option_and_then f o
 -- what four lines say: the letters and the alphabet, the position, the table, the tape
 unfoldable pub parts_of : List ℕ → List ℕ → List ℕ → List ℕ → Option Parts
 parts_of first second third fourth = do
-  size ← two_numbers (line_numbers first)
-  position ← one_number (line_numbers second)
+  size ← exactly 2 (line_numbers first)
+  position ← exactly 1 (line_numbers second)
   table ← line_numbers third
   tape ← line_numbers fourth
-  Some (record { letters = size.0; alphabet = size.1; position = position; table = table; tape = tape })
+  Some (record { letters = slice_index size 0; alphabet = slice_index size 1; position = slice_index position 0; table = table; tape = tape })
 
 -- what may stand behind the fourth line: nothing, or a line feed and nothing behind it
 abbrev pub is_end : List (List ℕ) → Bool

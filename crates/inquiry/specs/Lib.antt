@@ -3,4 +3,5 @@ pub mod ByteRows
 pub mod Inquiries
 pub mod Text
 pub mod Findings
+pub mod Stops
 pub mod Replies

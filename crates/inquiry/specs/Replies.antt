@@ -76,9 +76,6 @@ reply_by tell (Some p) = answer_text (inquiry_fault p) (tell (round_of p))
 abbrev pub found_text : Round → List ℕ
 found_text r = findings_text (findings_in r)
 
-abbrev pub reply_to : Option Parts → List ℕ
-reply_to o = reply_by found_text o
-
--- what the program prints for the bytes that it reads
+-- what it prints for the bytes that it reads
 unfoldable pub reply : List ℕ → List ℕ
-reply input = reply_to (inquiry_of input)
+reply input = reply_by found_text (inquiry_of input)

@@ -3,58 +3,21 @@ ghost use Rattle.std.specs.Prelude.{◌≡◌, Some, None, MatchResult, length};
 ghost use Rattle.scheme.specs.Answers.{sheet_size};
 ghost use Rattle.session.specs.States.{ready_session};
 ghost use Rattle.rounds.specs.Rounds.{round_fault};
-ghost use Rattle.inquiry.specs.Findings.{findings, reading_of, StopsWith};
+ghost use Rattle.inquiry.specs.Findings.{findings, reading_of};
+ghost use Rattle.inquiry.specs.Stops.{Finds};
 ghost use Rattle.inquiry.specs.Replies.{round_with, inquiry_fault, findings_in, round_of};
 
+use crate::found::Found;
 use crate::inquiry::Inquiry;
+use crate::stop::Stop;
 use family::Family;
 use faults::Fault;
 use host::{Dense, Host};
 use rounds::{Reading, Rows, round};
 use scheme::sheet_size;
 use session::Ready;
-use std::alloc::{AllocError, Global};
+use std::alloc::Global;
 use words::Words;
-
-// What a lookup finds: the position, the queries that the two hosts were shown, the sheets that they answered, how many digits were
-// carried, and the entry.
-#[derive(Drop)]
-pub struct Found {
-    pub position: usize,
-    pub first: Vec<u8>,
-    pub second: Vec<u8>,
-    pub first_sheet: Vec<u8>,
-    pub second_sheet: Vec<u8>,
-    pub carried: usize,
-    pub entry: u8,
-}
-
-// Why a lookup finds nothing: a call refused, or memory ran out.
-#[derive(Clone, Copy)]
-pub enum Stop {
-    Refused(Fault),
-    NoMemory,
-}
-
-impl From<Fault> for Stop {
-    ghost use Rattle.inquiry.specs.declared.finding.Stop.TheVariants.{Refused};
-
-    ghost from_gives = { λ fault s. s ≡ Refused fault };
-
-    fn from(fault: Fault) -> Stop {
-        Stop::Refused(fault)
-    }
-}
-
-impl From<AllocError> for Stop {
-    ghost use Rattle.inquiry.specs.declared.finding.Stop.TheVariants.{NoMemory};
-
-    ghost from_gives = { λ _ s. s ≡ NoMemory };
-
-    fn from(_error: AllocError) -> Stop {
-        Stop::NoMemory
-    }
-}
 
 // Plays a round with one host as both. Its rows come as slices, and not as `Rows`: of a vector that is lent by way of a struct a
 // proof does not know what it holds after.
@@ -98,7 +61,7 @@ fn find<F: Family, H: Host>(
     position: usize,
 ) -> Result<Found, Stop>
     ensures { let r = round_with (ready_session session) (F.Family.vectors family.now) (H.Host.holding host.now) position in
-        MatchResult result (λ f. (round_fault r ≡ None) × (findings f ≡ findings_in r)) (StopsWith (round_fault r)) }
+        Finds (round_fault r) (λ f. findings f ≡ findings_in r) result }
 {
     let k = family.dimension();
     let size = sheet_size(family);
@@ -122,8 +85,7 @@ fn find<F: Family, H: Host>(
         second,
         first_sheet,
         second_sheet,
-        carried: reading.carried,
-        entry: reading.entry,
+        reading,
     })
 }
 
@@ -133,9 +95,7 @@ impl Inquiry {
     // Looks the position up: makes the family and the host, opens the session, and plays the round. The first that refuses decides.
     #[tactic(auto, unfolding(crate::specs::Replies::inquiry_fault))]
     pub fn look_up(self, heap: Global) -> Result<Found, Stop>
-        ensures { MatchResult result
-            (λ f. (inquiry_fault (said self) ≡ None) × (findings f ≡ findings_in (round_of (said self))))
-            (StopsWith (inquiry_fault (said self))) }
+        ensures { Finds (inquiry_fault (said self)) (λ f. findings f ≡ findings_in (round_of (said self))) result }
     {
         let Inquiry {
             letters,

@@ -1,10 +1,12 @@
 // An inquiry, read from bytes.
-ghost use Rattle.std.specs.Prelude.{◌≡◌, IfOk, map, option_map};
+ghost use Rattle.std.specs.Prelude.{map, option_map};
 ghost use Rattle.inquiry.specs.Grammar.{parts_of, inquiry_in, inquiry_of};
+ghost use Rattle.inquiry.specs.Stops.{ReadsAs};
 
-use crate::lines::{byte_row, is_end, one_number, two_numbers};
+use crate::lines::{byte_row, exactly, is_end};
 use crate::numbers::parts_at;
-use std::alloc::{AllocError, Global};
+use crate::stop::Stop;
+use std::alloc::Global;
 
 // The most bytes that an input may have.
 pub(crate) const MOST_BYTES: usize = 8192;
@@ -30,51 +32,43 @@ impl Inquiry {
         second: &[u8],
         third: &[u8],
         fourth: &[u8],
-    ) -> Result<Option<Inquiry>, AllocError>
-        ensures { IfOk result (λ found. option_map said found ≡ option_map in_bytes (parts_of first.now second.now third.now fourth.now)) }
+    ) -> Result<Inquiry, Stop>
+        ensures { ReadsAs said (option_map in_bytes (parts_of first.now second.now third.now fourth.now)) result }
     {
-        let Some((letters, alphabet)) = two_numbers(heap, first)? else {
-            return Ok(None);
-        };
-        let Some(position) = one_number(heap, second)? else {
-            return Ok(None);
-        };
-        let Some(table) = byte_row(heap, third)? else {
-            return Ok(None);
-        };
-        let Some(tape) = byte_row(heap, fourth)? else {
-            return Ok(None);
-        };
-        Ok(Some(Inquiry {
-            letters,
-            alphabet,
-            position,
+        let [letters, alphabet] = exactly::<2>(heap, first)?;
+        let [position] = exactly::<1>(heap, second)?;
+        let table = byte_row(heap, third)?;
+        let tape = byte_row(heap, fourth)?;
+        Ok(Inquiry {
+            letters: letters as usize,
+            alphabet: alphabet as usize,
+            position: position as usize,
             table,
             tape,
-        }))
+        })
     }
 
     // What the lines say that stand between line feeds.
     #[tactic(auto, using(crate::proofs::Forms::too_few), unfolding(crate::specs::Grammar::inquiry_in))]
-    fn from_parts(heap: Global, lines: &[&[u8]]) -> Result<Option<Inquiry>, AllocError>
-        ensures { IfOk result (λ found. option_map said found ≡ option_map in_bytes (inquiry_in (map (λ x. x.now) lines.now))) }
+    fn from_parts(heap: Global, lines: &[&[u8]]) -> Result<Inquiry, Stop>
+        ensures { ReadsAs said (option_map in_bytes (inquiry_in (map (λ x. x.now) lines.now))) result }
     {
         let [first, second, third, fourth, end @ ..] = lines else {
-            return Ok(None);
+            return Err(Stop::Form);
         };
         if !is_end(end) {
-            return Ok(None);
+            return Err(Stop::Form);
         }
         Inquiry::from_lines(heap, first, second, third, fourth)
     }
 
-    // Reads an inquiry, or none where the input has another form.
+    // Reads an inquiry. An input of another form is refused.
     #[tactic(auto, unfolding(crate::specs::Grammar::inquiry_of))]
-    pub fn read(heap: Global, input: &[u8]) -> Result<Option<Inquiry>, AllocError>
-        ensures { IfOk result (λ found. option_map said found ≡ option_map in_bytes (inquiry_of input.now)) }
+    pub fn read(heap: Global, input: &[u8]) -> Result<Inquiry, Stop>
+        ensures { ReadsAs said (option_map in_bytes (inquiry_of input.now)) result }
     {
         if input.len() > MOST_BYTES {
-            return Ok(None);
+            return Err(Stop::Form);
         }
         Inquiry::from_parts(heap, parts_at(heap, b'\n', input)?.as_slice())
     }

@@ -4,12 +4,18 @@
 
 pub mod answering;
 pub mod finding;
+pub mod found;
 pub mod inquiry;
 mod lines;
 mod numbers;
+pub mod stop;
+pub mod telling;
 pub mod text;
 
-pub use answering::{FORM, bytes_enough, reply};
-pub use finding::{Found, Stop};
+pub use answering::{FORM, bytes_enough, reply, reply_with};
+pub use digits::Spaced;
+pub use found::Found;
 pub use inquiry::Inquiry;
-pub use text::{Refusal, Spaced};
+pub use stop::Stop;
+pub use telling::Tells;
+pub use text::Refusal;

@@ -1,46 +1,27 @@
 // What the lines of an inquiry say, each by its kind.
-ghost use Rattle.std.specs.Prelude.{◌≡◌, IfOk, map, option_map};
-ghost use Rattle.inquiry.specs.Grammar.{line_numbers, one_number, two_numbers, is_end};
+ghost use Rattle.std.specs.Prelude.{◌≡◌, map, option_map};
+ghost use Rattle.inquiry.specs.Grammar.{line_numbers, exactly, is_end};
 ghost use Rattle.inquiry.specs.ByteRows.{byte_row};
+ghost use Rattle.inquiry.specs.Stops.{ReadsAs};
 
 use crate::numbers::line_numbers;
-use std::alloc::{AllocError, Global};
+use crate::stop::Stop;
+use std::alloc::Global;
 
-// A line of one number.
-pub(crate) fn one_number(heap: Global, line: &[u8]) -> Result<Option<usize>, AllocError>
-    ensures { IfOk result (λ found. found ≡ one_number (line_numbers line.now)) }
+// A line of exactly N numbers.
+pub(crate) fn exactly<const N: usize>(heap: Global, line: &[u8]) -> Result<[u32; N], Stop>
+    ensures { ReadsAs (λ ns. ns) (exactly N (line_numbers line.now)) result }
 {
-    let Some(numbers) = line_numbers(heap, line)? else {
-        return Ok(None);
-    };
-    match numbers.as_slice() {
-        [n] => Ok(Some(*n as usize)),
-        _ => Ok(None),
-    }
-}
-
-// A line of two numbers.
-pub(crate) fn two_numbers(heap: Global, line: &[u8]) -> Result<Option<(usize, usize)>, AllocError>
-    ensures { IfOk result (λ found. found ≡ two_numbers (line_numbers line.now)) }
-{
-    let Some(numbers) = line_numbers(heap, line)? else {
-        return Ok(None);
-    };
-    match numbers.as_slice() {
-        [m, n] => Ok(Some((*m as usize, *n as usize))),
-        _ => Ok(None),
-    }
+    let numbers = line_numbers(heap, line)?;
+    numbers.as_slice().as_array().copied().ok_or(Stop::Form)
 }
 
 // A line of digits, as bytes. A number above 255 stands as 255, which is no digit either.
-pub(crate) fn byte_row(heap: Global, line: &[u8]) -> Result<Option<Vec<u8>>, AllocError>
-    ensures { IfOk result (λ found. option_map (λ v. v.items) found ≡ option_map byte_row (line_numbers line.now)) }
+pub(crate) fn byte_row(heap: Global, line: &[u8]) -> Result<Vec<u8>, Stop>
+    ensures { ReadsAs (λ v. v.items) (option_map byte_row (line_numbers line.now)) result }
 {
-    let Some(numbers) = line_numbers(heap, line)? else {
-        return Ok(None);
-    };
-    let row = numbers.iter().map(|n| (*n).min(255) as u8).collect(heap)?;
-    Ok(Some(row))
+    let numbers = line_numbers(heap, line)?;
+    Ok(numbers.iter().map(|n| (*n).min(255) as u8).collect(heap)?)
 }
 
 // Whether what stands behind the fourth line is nothing, or a line feed and nothing behind it.

@@ -1,9 +1,11 @@
 // Numbers in base ten, and how a row of bytes falls into fields.
-ghost use Rattle.std.specs.Prelude.{◌≡◌, IfOk, map, option_map};
+ghost use Rattle.std.specs.Prelude.{◌≡◌, IfOk, map};
 ghost use Rattle.std.specs.Char.{is_ascii_digit};
 ghost use Rattle.std.specs.List.{list_all};
 ghost use Rattle.inquiry.specs.Grammar.{parts_at, number_in, numbers_of, line_numbers};
+ghost use Rattle.inquiry.specs.Stops.{ReadsAs};
 
+use crate::stop::Stop;
 use std::alloc::{AllocError, Global};
 
 // Whether each byte of a field is a digit of base ten.
@@ -24,18 +26,15 @@ fn number(field: &[u8]) -> Option<u32>
     str::from_utf8(field).ok()?.parse().ok()
 }
 
-// All fields as numbers, or none where one is no number.
-fn numbers_of(heap: Global, fields: &[&[u8]]) -> Result<Option<Vec<u32>>, AllocError>
-    ensures { IfOk result (λ found. option_map (λ v. v.items) found ≡ numbers_of (map (λ x. x.now) fields.now)) }
+// All fields as numbers. (A loop with `?`: of `try_collect` a proof does not know that it fails where one field is no number.)
+fn numbers_of(heap: Global, fields: &[&[u8]]) -> Result<Vec<u32>, Stop>
+    ensures { ReadsAs (λ v. v.items) (numbers_of (map (λ x. x.now) fields.now)) result }
 {
     let mut numbers = Vec::new(heap);
     for field in fields {
-        let Some(n) = number(field) else {
-            return Ok(None);
-        };
-        numbers.push(n)?;
+        numbers.push(number(field).ok_or(Stop::Form)?)?;
     }
-    Ok(Some(numbers))
+    Ok(numbers)
 }
 
 // The parts of a row of bytes between the bytes that equal a mark.
@@ -46,11 +45,11 @@ pub(crate) fn parts_at(heap: Global, mark: u8, bytes: &[u8]) -> Result<Vec<&[u8]
 }
 
 // The numbers of a line, or none where it is no line of numbers.
-pub(crate) fn line_numbers(heap: Global, line: &[u8]) -> Result<Option<Vec<u32>>, AllocError>
-    ensures { IfOk result (λ found. option_map (λ v. v.items) found ≡ line_numbers line.now) }
+pub(crate) fn line_numbers(heap: Global, line: &[u8]) -> Result<Vec<u32>, Stop>
+    ensures { ReadsAs (λ v. v.items) (line_numbers line.now) result }
 {
     if line.is_empty() {
-        return Ok(Some(Vec::new(heap)));
+        return Ok(Vec::new(heap));
     }
     numbers_of(heap, parts_at(heap, b' ', line)?.as_slice())
 }

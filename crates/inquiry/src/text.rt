@@ -1,12 +1,13 @@
 // What the program prints: lines of a word and numbers.
 ghost use Rattle.std.specs.Prelude.{[], ◌∷◌, Some};
-ghost use Rattle.faults.specs.Text.{spaced};
 ghost use Rattle.inquiry.specs.Text.{line, findings_text, refusal_text};
 
-use crate::finding::Found;
+use crate::found::Found;
+use digits::Spaced;
 use std::fmt;
 
-// A line with a word and one number.
+// A line with a word and one number. It and `RowLine` stay two: one line over whatever is told would say its text by that of any
+// `Display`, and no longer by `line`, and a number with a space before it would need a type of its own. That is no plainer.
 #[derive(Clone, Copy)]
 pub(crate) struct NumberLine<'a> {
     pub word: &'a str,
@@ -20,21 +21,6 @@ impl fmt::Display for NumberLine<'_> {
         let word = self.word;
         let number = self.number;
         writeln!(f, "{word} {number}")
-    }
-}
-
-// A row of digits, with a space before each.
-#[derive(Clone, Copy)]
-pub struct Spaced<'a>(pub &'a [u8]);
-
-impl fmt::Display for Spaced<'_> {
-    ghost output = { λ s. Some (spaced s.0.now) };
-
-    fn fmt<W: fmt::Write>(&self, f: &mut fmt::Formatter<W>) -> fmt::Result {
-        for digit in self.0 {
-            write!(f, " {digit}")?;
-        }
-        Ok(())
     }
 }
 
@@ -80,8 +66,8 @@ impl fmt::Display for Found {
         let position = number("position", self.position);
         let first = row("first", self.first.as_slice());
         let second = row("second", self.second.as_slice());
-        let carried = number("carried", self.carried);
-        let entry = number("entry", usize::from(self.entry));
+        let carried = number("carried", self.reading.carried);
+        let entry = number("entry", usize::from(self.reading.entry));
         write!(f, "{position}{first}{second}{carried}{entry}")
     }
 }

@@ -1,28 +1,22 @@
 -- Texts filled up with spaces, as a format's width writes them.
-use Rattle.std.proofs.Common.{◌≡◌, ℕ, zero, suc, ◌+◌, ◌-◌, ◌^◌, ◌≤◌, ◌<◌, ◌||◌, nat_le, Bool, true, false, cond, List, [], ◌∷◌, ◌++◌, length, replicate, refl, sym, ap, ap₂, ◌∙◌, arith, ◌==◌, append-nil}
+use Rattle.std.proofs.Common.{◌≡◌, ℕ, zero, suc, ◌+◌, ◌-◌, ◌^◌, ◌≤◌, ◌<◌, ◌||◌, nat_le, false, cond, List, [], ◌∷◌, ◌++◌, length, replicate, refl, ap, ap₂, ◌∙◌, arith, append-nil}
 use Rattle.std.specs.Prelude.{codes, decimal}
-use Rattle.std.specs.Fmt.{is_char_start, char_count, take_chars, padded, padded_integral, format_spec, styled_text, styled_decimal}
+use Rattle.std.specs.Fmt.{char_count, take_chars, padded, padded_integral, format_spec, styled_text, styled_decimal}
 use Rattle.std.specs.Char.{encode_utf8}
 use Rattle.std.specs.List.{repeat}
 use Rattle.std.specs.Str.{IsAscii}
 use Rattle.std.proofs.lemmas.Str.{encode_ascii}
 use Rattle.std.proofs.lemmas.Fmt.{IsAscii-decimal}
-use Rattle.std.proofs.lemmas.Bool.{cond-false, lt-ltb, ne_eqb}
+use Rattle.std.proofs.lemmas.Bool.{lt-ltb}
+use Rattle.std.proofs.lemmas.Bool.Decides.{nat_tests}
 use Rattle.faults.specs.Text.{spaced}
 use Rattle.working.specs.Layout.{filled, row_text, element_text}
-
-either_way : {A : Type 0} (t : Bool) (x y z : A) → x ≡ z → y ≡ z → cond t x y ≡ z
-either_way true x y z p q = p
-either_way false x y z p q = q
 
 -- a text has no more characters than bytes
 whole : (n : ℕ) (text : List ℕ) → length text ≤ n → take_chars n text ≡ text
 unfolding take_chars
 whole n [] short = refl
-whole n (b ∷ text) short =
-    either_way (is_char_start b) _ _ _
-    (cond-false (n == 0) [] _ (ne_eqb n 0 (λ e. omega arith)) ∙ ap (λ l. b ∷ l) (whole (n - 1) text (omega arith)))
-    (ap (λ l. b ∷ l) (whole n text (omega arith)))
+whole n (b ∷ text) short = grind (arith, nat_tests, whole (n - 1) text (omega arith), whole n text (omega arith))
 
 spaces : (n : ℕ) → repeat {A = ℕ} n (32 ∷ []) ≡ replicate n 32
 spaces zero = refl
@@ -47,15 +41,14 @@ number_filled places numeral =
     ap (λ l. numeral ++ l) (filling (places - length numeral - 0 - 0 - 0) (places - length numeral) (omega arith))
 
 -- the lines, as formats write them
-pub number_line : (name : List ℕ) (n : ℕ) → length name ≤ 2 ^ 64 - 1 →
-    styled_text (format_spec 32 1 0 15 (2 ^ 64 - 1)) name ++ (32 ∷ (decimal n ++ 10 ∷ [])) ≡ row_text name (n ∷ [])
-unfolding row_text
-number_line name n short = ap₂ (λ a b. a ++ (32 ∷ (b ++ 10 ∷ []))) (text_filled 15 name short) (sym (append-nil (decimal n)))
-
 pub digits_line : (name digits : List ℕ) → length name ≤ 2 ^ 64 - 1 →
     styled_text (format_spec 32 1 0 15 (2 ^ 64 - 1)) name ++ (spaced digits ++ 10 ∷ []) ≡ row_text name digits
 unfolding row_text
 digits_line name digits short = ap (λ a. a ++ (spaced digits ++ 10 ∷ [])) (text_filled 15 name short)
+
+pub number_line : (name : List ℕ) (n : ℕ) → length name ≤ 2 ^ 64 - 1 →
+    styled_text (format_spec 32 1 0 15 (2 ^ 64 - 1)) name ++ (32 ∷ (decimal n ++ 10 ∷ [])) ≡ row_text name (n ∷ [])
+number_line name n short = rw (append-nil (decimal n)) at (digits_line name (n ∷ []) short)
 
 -- a text of bytes below 128 has as many characters as bytes
 ascii_count : (bs : List ℕ) → IsAscii bs → char_count bs ≡ length bs

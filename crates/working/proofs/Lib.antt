@@ -1,2 +1,3 @@
+pub mod Steps
 mod Filling
 mod Lining

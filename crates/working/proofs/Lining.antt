@@ -39,25 +39,16 @@ pub all_left : (name digits rest : List ℕ) → rest ≡ digits → lines_text 
 unfolding block_text
 all_left name digits rest e = ap (λ l. lines_text name (line_count l) l) e
 
-none : (name : List ℕ) → lines_text name 0 [] ≡ []
-unfolding lines_text
-none name = refl
-
 pub none_left : (name done rest text : List ℕ) → rest ≡ [] → done ++ lines_text name (line_count rest) rest ≡ text → done ≡ text
-none_left name done rest text e all =
-    sym (append-nil done)
-    ∙ ap (λ l. done ++ l) (sym (ap (λ r. lines_text name (line_count r) r) e ∙ none name))
-    ∙ all
+unfolding lines_text
+none_left name done rest text e all = sym (append-nil done) ∙ (rw e at all)
 
 -- the elements of a sheet, one by one
 pub no_element : (sheet : List ℕ) → [] ≡ elements_text sheet 0
 unfolding elements_text
 no_element sheet = refl
 
-after : (sheet : List ℕ) (c : ℕ) → elements_text sheet c ++ element_text c (element_of sheet c) ≡ elements_text sheet (suc c)
-unfolding elements_text
-after sheet c = refl
-
 pub element_more : (sheet : List ℕ) (c : ℕ) →
     elements_text sheet c ++ element_text c (element_of sheet c) ≡ elements_text sheet (c + 1)
-element_more sheet c = let e : suc c ≡ c + 1 = omega arith in after sheet c ∙ ap (elements_text sheet) e
+unfolding elements_text
+element_more sheet c = let e : c + 1 ≡ suc c = omega arith in rw e

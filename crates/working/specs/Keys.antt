@@ -1,7 +1,7 @@
 -- Keys: what the program `key` prints for an input.
-use Rattle.std.specs.Prelude.{ℕ, List, Option}
+use Rattle.std.specs.Prelude.{ℕ, List}
 use Rattle.rounds.specs.Rounds.{Round}
-use Rattle.inquiry.specs.Grammar.{Parts, inquiry_of}
+use Rattle.inquiry.specs.Grammar.{inquiry_of}
 use Rattle.inquiry.specs.Replies.{reply_by}
 use Rattle.working.specs.Workings.{working_in}
 use Rattle.working.specs.Layout.{working_text}
@@ -10,10 +10,6 @@ use Rattle.working.specs.Layout.{working_text}
 abbrev pub worked_text : Round → List ℕ
 worked_text r = working_text (working_in r)
 
--- refused is what `lookup` refuses, in the same words
-abbrev pub key_to : Option Parts → List ℕ
-key_to o = reply_by worked_text o
-
--- what the program prints for the bytes that it reads
+-- what the program prints for the bytes that it reads: refused is what `lookup` refuses, in the same words
 unfoldable pub key : List ℕ → List ℕ
-key input = key_to (inquiry_of input)
+key input = reply_by worked_text (inquiry_of input)

@@ -1,20 +1,17 @@
 // The key to an input: what the program prints.
-ghost use Rattle.std.specs.Prelude.{◌≡◌, ℕ, List, take, IfOk, Some, string_bytes};
-ghost use Rattle.inquiry.specs.Inquiries.{said};
-ghost use Rattle.working.specs.Keys.{key, key_to};
+ghost use Rattle.std.specs.Prelude.{◌≡◌, ℕ, List, take, IfOk, string_bytes};
+ghost use Rattle.working.specs.Keys.{key, worked_text};
 
-use crate::work::work_out;
-use inquiry::{FORM, Inquiry, Refusal, Stop};
+use crate::work::{Work, work_out};
+use inquiry::{Inquiry, Stop, Tells, reply_with};
 use std::alloc::{AllocError, Global};
 
-// Works an inquiry out, and tells its working or by which number it was refused.
-fn answer(heap: Global, inquiry: Inquiry) -> Result<String, AllocError>
-    ensures { IfOk result (λ text. string_bytes text ≡ key_to (Some (said inquiry))) }
-{
-    match work_out(inquiry, heap) {
-        Ok(work) => format!(in heap; "{work}"),
-        Err(Stop::Refused(fault)) => format!(in heap; "{}", Refusal(fault.cause.number())),
-        Err(Stop::NoMemory) => Err(AllocError),
+// What a lookup finds, with its whole working.
+impl Tells for Work {
+    ghost tells = { worked_text };
+
+    fn find(inquiry: Inquiry, heap: Global) -> Result<Work, Stop> {
+        work_out(inquiry, heap)
     }
 }
 
@@ -23,10 +20,7 @@ fn answer(heap: Global, inquiry: Inquiry) -> Result<String, AllocError>
 pub fn key(heap: Global, input: &[u8]) -> Result<String, AllocError>
     ensures { IfOk result (λ text. string_bytes text ≡ key input.now) }
 {
-    match Inquiry::read(heap, input)? {
-        Some(inquiry) => answer(heap, inquiry),
-        None => format!(in heap; "{}", Refusal(FORM)),
-    }
+    reply_with::<Work>(heap, input)
 }
 
 // How many bytes of an input are enough to print its key.

@@ -1,15 +1,15 @@
 // Rows of digits under names, as lines of text.
-ghost use Rattle.std.specs.Prelude.{◌≡◌, [], ◌∷◌, Some};
+ghost use Rattle.std.specs.Prelude.{[], ◌∷◌, Some};
 ghost use Rattle.working.specs.Layout.{row_text, block_text, element_text};
 
-use digits::Element;
-use inquiry::Spaced;
+use digits::{Element, Spaced};
 use std::fmt;
 
 // So many digits stand in a line at most.
 const DIGITS_A_LINE: usize = 30;
 
-// A line with a name and a number.
+// A line with a name and a number. The lines below stay types of their own: one line over whatever is told would say its text by that of
+// any `Display`, and no longer by `row_text`, and a number, with a space before it, would need a type of its own. That is no plainer.
 #[derive(Clone, Copy)]
 pub(crate) struct Number<'a>(pub &'a str, pub usize);
 
@@ -46,21 +46,13 @@ impl fmt::Display for Block<'_> {
 
     fn fmt<W: fmt::Write>(&self, f: &mut fmt::Formatter<W>) -> fmt::Result {
         let mut name = self.0;
+        // as `lines_text` has it: the name is handed on empty. Names in a chain beside the chunks, or a count of lines, are no plainer.
         for digits in self.1.chunks(DIGITS_A_LINE) {
             write!(f, "{}", Row(name, digits))?;
             name = "";
         }
         Ok(())
     }
-}
-
-// The six digits of an element.
-pub(crate) fn six(element: &Element) -> [u8; 6]
-    ensures { result ≡ element.now.digits }
-{
-    let mut digits = [0; 6];
-    element.write(&mut digits).unwrap();
-    digits
 }
 
 // A line with an element under a name.
@@ -72,12 +64,12 @@ impl fmt::Display for Named<'_> {
 
     fn fmt<W: fmt::Write>(&self, f: &mut fmt::Formatter<W>) -> fmt::Result {
         let name = self.0;
-        let digits = six(&self.1);
+        let digits = <[u8; 6]>::from(self.1);
         write!(f, "{}", Row(name, &digits))
     }
 }
 
-// The line of a sheet's element of a coordinate.
+// The line of a sheet's element of a coordinate. It is no `Named`, since its name ends with a number, which is filled up by itself.
 #[derive(Clone, Copy)]
 pub(crate) struct Coordinate(pub usize, pub Element);
 
@@ -86,7 +78,7 @@ impl fmt::Display for Coordinate {
 
     fn fmt<W: fmt::Write>(&self, f: &mut fmt::Formatter<W>) -> fmt::Result {
         let coordinate = self.0;
-        let digits = six(&self.1);
+        let digits = <[u8; 6]>::from(self.1);
         let digits = Spaced(&digits);
         writeln!(f, "  element {coordinate:<5}{digits}")
     }

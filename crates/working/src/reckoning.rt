@@ -5,7 +5,7 @@ ghost use Rattle.working.specs.Works.{reckoned};
 
 use digits::Element;
 use family::Family;
-use scheme::{found, sheets_weighed, slope, value};
+use scheme::{slope, value, weighed};
 
 // The elements that two sheets come to: Y1 and Y2 of the first, Y3 and Y4 of the second, then W and X.
 #[derive(Clone, Copy)]
@@ -23,13 +23,18 @@ impl Reckoning {
     pub fn new<F: Family>(family: &F, t: usize, shift: u8, one: &[u8], two: &[u8]) -> Reckoning
         ensures { reckoned result ≡ reckoned_from (F.Family.vectors family.now) t shift one.now two.now }
     {
+        let y1 = value(one);
+        let y2 = slope(family, t, one);
+        let y3 = value(two);
+        let y4 = slope(family, t, two);
+        let w = weighed(y1, y2, y3, y4);
         Reckoning {
-            y1: value(one),
-            y2: slope(family, t, one),
-            y3: value(two),
-            y4: slope(family, t, two),
-            w: sheets_weighed(family, t, one, two),
-            x: found(family, t, shift, one, two),
+            y1,
+            y2,
+            y3,
+            y4,
+            w,
+            x: w.turned(usize::from(shift)),
         }
     }
 }

@@ -26,6 +26,7 @@ impl fmt::Display for Elements<'_> {
 
     fn fmt<W: fmt::Write>(&self, f: &mut fmt::Formatter<W>) -> fmt::Result {
         let sheet = self.0;
+        // by coordinate, as the definition has it: chunks of six would each have to be shown to be the element, and be counted besides
         for coordinate in 0..coordinates(sheet) {
             let element = Element::read_at(sheet, 6 * (1 + coordinate));
             write!(f, "{}", Coordinate(coordinate, element))?;
@@ -109,8 +110,8 @@ impl fmt::Display for Work {
         let request = Request(self);
         let sheets = Sheets(self);
         let reckoning = self.reckoning;
-        let entry = Number("entry", usize::from(self.found.entry));
-        let carried = Number("carried", self.found.carried);
+        let entry = Number("entry", usize::from(self.found.reading.entry));
+        let carried = Number("carried", self.found.reading.carried);
         write!(f, "{request}{sheets}{reckoning}{entry}{carried}")
     }
 }

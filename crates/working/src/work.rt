@@ -1,8 +1,9 @@
 // The working of a lookup: what it finds, and each step in between.
-ghost use Rattle.std.specs.Prelude.{◌≡◌, None, MatchResult};
-ghost use Rattle.inquiry.specs.Findings.{findings, StopsWith};
+ghost use Rattle.std.specs.Prelude.{◌≡◌};
+ghost use Rattle.inquiry.specs.Findings.{findings};
 ghost use Rattle.inquiry.specs.Inquiries.{said};
 ghost use Rattle.inquiry.specs.Replies.{inquiry_fault, round_of};
+ghost use Rattle.inquiry.specs.Stops.{Finds};
 ghost use Rattle.working.specs.Workings.{working_from, working_in};
 ghost use Rattle.working.specs.Works.{working};
 
@@ -45,9 +46,7 @@ impl Work {
 // Looks an inquiry's position up, and works the lookup out.
 #[tactic(auto, unfolding(inquiry::specs::Replies::inquiry_fault))]
 pub fn work_out(inquiry: Inquiry, heap: Global) -> Result<Work, Stop>
-    ensures { MatchResult result
-        (λ w. (inquiry_fault (said inquiry) ≡ None) × (working w ≡ working_in (round_of (said inquiry))))
-        (StopsWith (inquiry_fault (said inquiry))) }
+    ensures { Finds (inquiry_fault (said inquiry)) (λ w. working w ≡ working_in (round_of (said inquiry))) result }
 {
     let family = Words::new(inquiry.letters, inquiry.alphabet)?;
     let found = inquiry.look_up(heap)?;

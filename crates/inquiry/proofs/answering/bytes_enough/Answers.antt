@@ -1,5 +1,5 @@
 use Rattle.std.proofs.Common.{ap, arith}
-use Rattle.inquiry.specs.Replies.{reply, reply_to}
+use Rattle.inquiry.specs.Replies.{reply, reply_by, found_text}
 use Rattle.inquiry.proofs.Cutting.{cut_alike}
 use Rattle.inquiry.proofs.answering.bytes_enough.Goals as goal
 
@@ -8,4 +8,4 @@ returns-clause-says c = λ input. cut_alike 8193 input (omega arith)
 
 pub returns-clause-replied : goal.returns-clause-replied
 unfolding reply
-returns-clause-replied c = λ input. ap reply_to (cut_alike 8193 input (omega arith))
+returns-clause-replied c = λ input. ap (reply_by found_text) (cut_alike 8193 input (omega arith))

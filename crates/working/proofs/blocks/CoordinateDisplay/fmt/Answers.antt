@@ -7,5 +7,5 @@ use Rattle.working.proofs.blocks.CoordinateDisplay.fmt.Goals as goal
 pub returns-clause-writes : goal.returns-clause-writes
 returns-clause-writes g c = λ plain ok.
     has_written_of_eq _ _ _ _ _
-    (rw c.laid_out.ensures (rw c.six-digits.ensures (element_line c.args.self.now.0 c.args.self.now.1.digits (omega arith))))
+    (rw c.laid_out.ensures (rw c.from-digits.ensures (element_line c.args.self.now.0 c.args.self.now.1.digits (omega arith))))
     (c.writeln.ensures.writes plain ok)
