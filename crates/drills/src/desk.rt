@@ -1,7 +1,7 @@
 // The session of the drills, ready or waiting.
-use crate::stop::Stop;
-use crate::text::{Spaced, number};
+use crate::shortened::Shortened;
 use family::UnitFamily;
+use notation::{Stop, number};
 use session::{Counters, Ready, Waiting};
 use std::alloc::{AllocError, Global};
 use std::fmt;
@@ -25,7 +25,12 @@ impl Pair {
 
 impl fmt::Display for Pair {
     fn fmt<W: fmt::Write>(&self, f: &mut fmt::Formatter<W>) -> fmt::Result {
-        write!(f, "{} and{}", Spaced(&self.first), Spaced(&self.second))
+        write!(
+            f,
+            "{} and{}",
+            Shortened(&self.first),
+            Shortened(&self.second)
+        )
     }
 }
 
@@ -37,6 +42,13 @@ pub(crate) enum Desk {
 
 // A session after a drill, and what the drill came to.
 pub(crate) type Seen = (Desk, Result<String, Stop>);
+
+// Why all drills end early, with the session as it then is: it may hold a lookup that waits, which cannot be dropped, so it goes along with
+// the error, and `?` hands on both.
+pub(crate) struct Ended {
+    pub(crate) desk: Desk,
+    pub(crate) error: anyhow::Error,
+}
 
 impl Desk {
     // At first it is ready, with a tape of no digits.
@@ -79,7 +91,7 @@ pub(crate) fn told(heap: Global, session: &Ready) -> Result<String, Stop> {
     Ok(format!(in heap; "{counters} left {left}")?)
 }
 
-// What one tells of itself of which a lookup waits.
+// What one tells of itself of which a lookup waits. (A function of its own: it tells a position too.)
 pub(crate) fn told_waiting(heap: Global, waiting: &Waiting) -> Result<String, Stop> {
     let counters = Counted(waiting.counters());
     let left = waiting.digits_left();

@@ -1,32 +1,27 @@
 // A paragraph of the input: its first line makes a family, and the lines after it are drills with that family.
-use crate::desk::Desk;
-use crate::lines::all_drilled;
-use crate::stop::{Stop, answer_of};
-use crate::text::{bytes_of, number};
+use crate::desk::{Desk, Ended};
+use crate::lines::{all_drilled, printed};
 use books::Book;
 use family::{Family, FirstPart, UnitFamily};
+use notation::{Stop, bytes_of, number};
 use std::alloc::{AllocError, Global};
 use std::str::Lines;
 use words::Words;
 
 // Goes through a paragraph.
-pub(crate) fn paragraph(rt: &HostRuntime, part: &str, desk: Desk) -> (Desk, anyhow::Result<()>) {
+pub(crate) fn paragraph(rt: &HostRuntime, part: &str, desk: Desk) -> Result<Desk, Ended> {
     let mut lines = part.lines();
     let first = lines.next().unwrap_or("");
     let words: Result<Vec<&str>, AllocError> = first.split(' ').collect(rt.alloc());
     match words {
         Ok(words) => chosen(rt, &words, lines, desk),
-        Err(error) => (desk, Err(error.into())),
+        // by hand: a `?` would drop the desk, and a lookup that waits cannot be dropped
+        Err(error) => printed(rt, (desk, Err(error.into()))),
     }
 }
 
 // The drills of the lines, with the family that the words make.
-fn chosen(
-    rt: &HostRuntime,
-    words: &[&str],
-    lines: Lines<'_>,
-    desk: Desk,
-) -> (Desk, anyhow::Result<()>) {
+fn chosen(rt: &HostRuntime, words: &[&str], lines: Lines<'_>, desk: Desk) -> Result<Desk, Ended> {
     let heap = rt.alloc();
     match words {
         ["unit", n] => with(rt, unit(n), lines, desk),
@@ -38,10 +33,7 @@ fn chosen(
         ["first", l, "first", m, "words", h, q] => {
             with(rt, first(l, first(m, words_of(h, q))), lines, desk)
         }
-        _ => {
-            let none: Result<UnitFamily, Stop> = Err(Stop::Unclear("no such family"));
-            with(rt, none, lines, desk)
-        }
+        _ => printed(rt, (desk, Err(Stop::Unclear("no such family")))),
     }
 }
 
@@ -67,23 +59,18 @@ fn with<F: Family + Drop>(
     made: Result<F, Stop>,
     lines: Lines<'_>,
     desk: Desk,
-) -> (Desk, anyhow::Result<()>) {
+) -> Result<Desk, Ended> {
     match made {
-        Ok(family) => match sizes(rt, &family) {
-            Ok(_) => all_drilled(rt, &family, lines, desk),
-            Err(error) => (desk, Err(error)),
-        },
-        Err(stop) => (desk, refused(rt, stop)),
+        Ok(family) => {
+            let desk = printed(rt, (desk, sizes(rt.alloc(), &family)))?;
+            all_drilled(rt, &family, lines, desk)
+        }
+        // no `?` here either: it is told, and the paragraph ends without an error
+        Err(stop) => printed(rt, (desk, Err(stop))),
     }
 }
 
-fn sizes<F: Family>(rt: &HostRuntime, family: &F) -> anyhow::Result<()> {
-    println!(rt; "count {} dimension {}", family.count(), family.dimension())?;
-    Ok(())
-}
-
-fn refused(rt: &HostRuntime, stop: Stop) -> anyhow::Result<()> {
-    let answer = answer_of(rt.alloc(), Err(stop))?;
-    println!(rt; "{answer}")?;
-    Ok(())
+// The count and the dimension. (As in `trials`: a line that a function for both would not shorten.)
+fn sizes<F: Family>(heap: Global, family: &F) -> Result<String, Stop> {
+    Ok(format!(in heap; "count {} dimension {}", family.count(), family.dimension())?)
 }

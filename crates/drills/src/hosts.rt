@@ -7,7 +7,8 @@ use host::{Host, Sum};
 // Two of them, summed.
 pub(crate) type Two<'a> = Sum<Single<'a>, Single<'a>>;
 
-// As many single hosts as are summed: the first two, and then the third, or the sum of the third and the fourth.
+// As many single hosts as are summed: the first two, and then the third, or the sum of the third and the fourth. An enum, and no
+// `dyn Host`, since `answer` is generic in the family.
 #[derive(Drop)]
 pub(crate) enum Any<'a> {
     One(Single<'a>),

@@ -1,61 +1,140 @@
 // The lines of a paragraph: which drill each asks for, and whether it is its turn.
-use crate::desk::{Desk, Pair, Seen, told, told_waiting};
-use crate::lookups::{check, fits, open, recover, request, said, sheets_by, sheets_of};
-use crate::stop::{Stop, answer_of};
+use crate::desk::{Desk, Ended, Pair, Seen, told, told_waiting};
+use crate::lookups::{check, fits, opened, recover, request, said, sheets_by, sheets_of};
 use crate::tables::{answered, changed, dense, made};
-use crate::text::bytes_of;
-use crate::whole::{check_whole, handed, whole_round};
+use crate::whole::{Given, check_whole, handed, whole_round};
 use family::Family;
 use inquiry::reply;
+use notation::{Stop, answer_of, bytes_of, number};
 use session::{Ready, Waiting};
-use std::alloc::{AllocError, Global};
+use std::alloc::Global;
 use std::str::Lines;
+
+// What a line asks of a session that is ready, read before the session moves: a text, for which it stays as it is, another session in its
+// place, a request for a position with rows for its queries, or a round.
+enum ReadyTask {
+    Text(String),
+    Open(Ready),
+    Request(usize, Pair),
+    Round(Given),
+}
+
+// What a line asks of one of which a lookup waits: a text, a recovery from two sheets, or that the lookup is given up.
+enum WaitingTask {
+    Text(String),
+    Recover(Pair),
+    Abandon,
+}
 
 // Answers each line by a line.
 pub(crate) fn all_drilled<F: Family>(
     rt: &HostRuntime,
     family: &F,
     lines: Lines<'_>,
-    desk: Desk,
-) -> (Desk, anyhow::Result<()>) {
-    let mut desk = desk;
+    mut desk: Desk,
+) -> Result<Desk, Ended> {
     for line in lines {
-        let (after, came) = drilled(rt.alloc(), family, desk, line);
-        desk = after;
-        let came = printed(rt, came);
-        if came.is_err() {
-            return (desk, came);
-        }
+        desk = printed(rt, drilled(rt.alloc(), family, desk, line))?;
     }
-    (desk, Ok(()))
+    Ok(desk)
 }
 
-fn printed(rt: &HostRuntime, came: Result<String, Stop>) -> anyhow::Result<()> {
+// Prints what a drill came to.
+pub(crate) fn printed(rt: &HostRuntime, (desk, came): Seen) -> Result<Desk, Ended> {
+    match print_answer(rt, came) {
+        Ok(_) => Ok(desk),
+        Err(error) => Err(Ended { desk, error }),
+    }
+}
+
+fn print_answer(rt: &HostRuntime, came: Result<String, Stop>) -> anyhow::Result<()> {
     let answer = answer_of(rt.alloc(), came)?;
     println!(rt; "{answer}")?;
     Ok(())
 }
 
-// What the drill of a line comes to, with the session as it then is.
+// What the drill of a line comes to, with the session as it then is. What the line asks for is read while the session stays; here, and in
+// `whole_round` for the hosts, an error of reading and the session are put together, by hand, since a `?` would drop it, and a lookup
+// that waits cannot be dropped.
 fn drilled<F: Family>(heap: Global, family: &F, desk: Desk, line: &str) -> Seen {
-    let words: Result<Vec<&str>, AllocError> = line.split(' ').collect(heap);
-    match words {
-        Ok(words) => asked(heap, family, desk, &words),
-        Err(error) => (desk, Err(error.into())),
+    match desk {
+        Desk::Ready(session) => match asked(heap, family, &session, line) {
+            Ok(ReadyTask::Text(text)) => (Desk::Ready(session), Ok(text)),
+            Ok(ReadyTask::Open(new)) => (Desk::Ready(new), said(heap, "opened")),
+            Ok(ReadyTask::Request(t, rows)) => request(heap, family, session, t, rows),
+            Ok(ReadyTask::Round(given)) => whole_round(heap, family, session, given),
+            Err(stop) => (Desk::Ready(session), Err(stop)),
+        },
+        Desk::Waiting(waiting, queries) => match awaited(heap, family, &waiting, &queries, line) {
+            Ok(WaitingTask::Text(text)) => (Desk::Waiting(waiting, queries), Ok(text)),
+            Ok(WaitingTask::Recover(sheets)) => recover(heap, family, waiting, &sheets),
+            Ok(WaitingTask::Abandon) => (Desk::Ready(waiting.abandon()), said(heap, "abandoned")),
+            Err(stop) => (Desk::Waiting(waiting, queries), Err(stop)),
+        },
     }
 }
 
-fn asked<F: Family>(heap: Global, family: &F, desk: Desk, words: &[&str]) -> Seen {
+// Reads a line for a session that is ready. Whether it is a drill's turn is told before its words are read.
+fn asked<F: Family>(
+    heap: Global,
+    family: &F,
+    session: &Ready,
+    line: &str,
+) -> Result<ReadyTask, Stop> {
+    let words: Vec<&str> = line.split(' ').collect(heap)?;
+    Ok(match words.as_slice() {
+        ["open", tape] => ReadyTask::Open(opened(heap, family, tape)?),
+        ["check", t, first, second] => {
+            ReadyTask::Text(check(heap, family, session, [*t, *first, *second])?)
+        }
+        ["check", t, a, b, c, d, one, two] => {
+            let given = handed(heap, [*t, *a, *b, *c, *d, *one, *two])?;
+            ReadyTask::Text(check_whole(heap, family, session, given)?)
+        }
+        ["fits"] => ReadyTask::Text(fits(heap, family, session)?),
+        ["request", t, first, second] => {
+            ReadyTask::Request(number(t), Pair::unwritten(heap, first, second)?)
+        }
+        ["round", t, a, b, c, d, one, two] => {
+            ReadyTask::Round(handed(heap, [*t, *a, *b, *c, *d, *one, *two])?)
+        }
+        ["counters"] => ReadyTask::Text(told(heap, session)?),
+        ["recover" | "ask", _, _] | ["abandon"] => return Err(Stop::Unclear("out of turn")),
+        words => ReadyTask::Text(at_any_time(heap, family, words)?),
+    })
+}
+
+// Reads a line for one of which a lookup waits, the turn first here too.
+fn awaited<F: Family>(
+    heap: Global,
+    family: &F,
+    waiting: &Waiting,
+    queries: &Pair,
+    line: &str,
+) -> Result<WaitingTask, Stop> {
+    let words: Vec<&str> = line.split(' ').collect(heap)?;
+    Ok(match words.as_slice() {
+        ["recover", one, two] => WaitingTask::Recover(sheets_of(heap, one, two)?),
+        ["ask", one, two] => WaitingTask::Recover(sheets_by(heap, family, queries, [*one, *two])?),
+        ["abandon"] => WaitingTask::Abandon,
+        ["counters"] => WaitingTask::Text(told_waiting(heap, waiting)?),
+        ["open", _]
+        | ["fits"]
+        | ["check" | "request", _, _, _]
+        | ["check" | "round", _, _, _, _, _, _, _] => return Err(Stop::Unclear("out of turn")),
+        words => WaitingTask::Text(at_any_time(heap, family, words)?),
+    })
+}
+
+// The drills that need no session.
+fn at_any_time<F: Family>(heap: Global, family: &F, words: &[&str]) -> Result<String, Stop> {
     match words {
-        ["host", host] => (desk, made(heap, host)),
-        ["answer", host, query, sheet] => (desk, answered(heap, family, [*host, *query, *sheet])),
-        ["dense", row, positions @ ..] => (desk, dense(heap, row, positions)),
-        ["change", count, tasks @ ..] => (desk, changed(heap, count, tasks)),
-        ["lookup", input] => (desk, looked_up(heap, input)),
-        _ => match desk {
-            Desk::Ready(session) => ready(heap, family, session, words),
-            Desk::Waiting(waiting, queries) => in_wait(heap, family, waiting, queries, words),
-        },
+        ["host", host] => made(heap, host),
+        ["answer", host, query, sheet] => answered(heap, family, [*host, *query, *sheet]),
+        ["dense", row, positions @ ..] => dense(heap, row, positions),
+        ["change", count, tasks @ ..] => changed(heap, count, tasks),
+        ["lookup", input] => looked_up(heap, input),
+        _ => Err(Stop::Unclear("no such drill")),
     }
 }
 
@@ -63,78 +142,4 @@ fn asked<F: Family>(heap: Global, family: &F, desk: Desk, words: &[&str]) -> See
 fn looked_up(heap: Global, input: &str) -> Result<String, Stop> {
     let text = reply(heap, &bytes_of(heap, input)?)?;
     Ok(text.replace(heap, '\n', "/")?)
-}
-
-// A drill of a session that is ready.
-fn ready<F: Family>(heap: Global, family: &F, session: Ready, words: &[&str]) -> Seen {
-    match words {
-        ["open", tape] => open(heap, family, session, tape),
-        ["check", t, first, second] => {
-            let came = check(heap, family, &session, [*t, *first, *second]);
-            (Desk::Ready(session), came)
-        }
-        ["check", t, a, b, c, d, one, two] => {
-            let given = handed(heap, [*a, *b, *c, *d, *one, *two]);
-            let came = check_whole(heap, family, &session, t, given);
-            (Desk::Ready(session), came)
-        }
-        ["fits"] => {
-            let came = fits(heap, family, &session);
-            (Desk::Ready(session), came)
-        }
-        ["request", t, first, second] => match Pair::unwritten(heap, first, second) {
-            Ok(rows) => request(heap, family, session, t, rows),
-            Err(error) => (Desk::Ready(session), Err(error.into())),
-        },
-        ["round", t, a, b, c, d, one, two] => {
-            let given = handed(heap, [*a, *b, *c, *d, *one, *two]);
-            whole_round(heap, family, session, t, given)
-        }
-        ["counters"] => {
-            let text = told(heap, &session);
-            (Desk::Ready(session), text)
-        }
-        ["recover", _, _] | ["ask", _, _] | ["abandon"] => (Desk::Ready(session), out_of_turn()),
-        _ => (Desk::Ready(session), unclear()),
-    }
-}
-
-// A drill of one of which a lookup waits.
-fn in_wait<F: Family>(
-    heap: Global,
-    family: &F,
-    waiting: Waiting,
-    queries: Pair,
-    words: &[&str],
-) -> Seen {
-    match words {
-        ["recover", one, two] => {
-            let sheets = sheets_of(heap, one, two);
-            recover(heap, family, waiting, queries, sheets)
-        }
-        ["ask", one, two] => {
-            let sheets = sheets_by(heap, family, &queries, [*one, *two]);
-            recover(heap, family, waiting, queries, sheets)
-        }
-        ["abandon"] => (Desk::Ready(waiting.abandon()), said(heap, "abandoned")),
-        ["counters"] => {
-            let text = told_waiting(heap, &waiting);
-            (Desk::Waiting(waiting, queries), text)
-        }
-        ["open", _]
-        | ["fits"]
-        | ["check" | "request", _, _, _]
-        | ["check" | "round", _, _, _, _, _, _, _] => {
-            (Desk::Waiting(waiting, queries), out_of_turn())
-        }
-        _ => (Desk::Waiting(waiting, queries), unclear()),
-    }
-}
-
-fn out_of_turn() -> Result<String, Stop> {
-    Err(Stop::Unclear("out of turn"))
-}
-
-fn unclear() -> Result<String, Stop> {
-    Err(Stop::Unclear("no such drill"))
 }

@@ -1,11 +1,11 @@
 // Drills that move a session on: an opening, a request, a recovery and a whole round.
 use crate::desk::{Desk, Pair, Seen};
 use crate::parts::{host_of, parts_of};
-use crate::stop::Stop;
-use crate::text::{Refusal, bytes_of, number};
 use family::Family;
 use faults::Fault;
 use host::Host;
+use notation::{Refusal, Stop, bytes_of, number};
+use scheme::sheet_size;
 use session::{Ready, Refused, Waiting};
 use std::alloc::Global;
 
@@ -14,15 +14,8 @@ pub(crate) fn said(heap: Global, text: &str) -> Result<String, Stop> {
     Ok(String::from_str(heap, text)?)
 }
 
-// A session on a tape in place of the one that is ready. That one stays where the tape is refused.
-pub(crate) fn open<F: Family>(heap: Global, family: &F, session: Ready, tape: &str) -> Seen {
-    match opened(heap, family, tape) {
-        Ok(new) => (Desk::Ready(new), said(heap, "opened")),
-        Err(stop) => (Desk::Ready(session), Err(stop)),
-    }
-}
-
-fn opened<F: Family>(heap: Global, family: &F, tape: &str) -> Result<Ready, Stop> {
+// A session on a tape.
+pub(crate) fn opened<F: Family>(heap: Global, family: &F, tape: &str) -> Result<Ready, Stop> {
     Ok(Ready::open(family, bytes_of(heap, tape)?)?)
 }
 
@@ -49,10 +42,10 @@ pub(crate) fn request<F: Family>(
     heap: Global,
     family: &F,
     session: Ready,
-    t: &str,
+    t: usize,
     mut rows: Pair,
 ) -> Seen {
-    match session.request(family, number(t), &mut rows.first, &mut rows.second) {
+    match session.request(family, t, &mut rows.first, &mut rows.second) {
         Ok(waiting) => {
             let text = taken(heap, &rows);
             (Desk::Waiting(waiting, rows), text)
@@ -69,21 +62,15 @@ fn declined(heap: Global, fault: Fault, rows: &Pair) -> Result<String, Stop> {
     Ok(format!(in heap; "{} queries{rows}", Refusal(fault))?)
 }
 
-// A recovery from two sheets, where these could be had; else the lookup still waits.
+// A recovery from two sheets.
 pub(crate) fn recover<F: Family>(
     heap: Global,
     family: &F,
     waiting: Waiting,
-    queries: Pair,
-    sheets: Result<Pair, Stop>,
+    sheets: &Pair,
 ) -> Seen {
-    match sheets {
-        Ok(sheets) => {
-            let (session, came) = waiting.recover(family, &sheets.first, &sheets.second);
-            (Desk::Ready(session), entry(heap, came))
-        }
-        Err(stop) => (Desk::Waiting(waiting, queries), Err(stop)),
-    }
+    let (session, came) = waiting.recover(family, &sheets.first, &sheets.second);
+    (Desk::Ready(session), entry(heap, came))
 }
 
 fn entry(heap: Global, came: Result<u8, Fault>) -> Result<String, Stop> {
@@ -108,7 +95,7 @@ pub(crate) fn sheets_by<F: Family>(
 ) -> Result<Pair, Stop> {
     let (one, two) = (parts_of(heap, one)?, parts_of(heap, two)?);
     let (one, two) = (host_of(&one)?, host_of(&two)?);
-    let size = family.dimension().saturating_add(1).saturating_mul(6);
+    let size = sheet_size(family);
     let mut sheets = Pair {
         first: vec![in heap; 0; size]?,
         second: vec![in heap; 0; size]?,

@@ -8,36 +8,38 @@ mod hosts;
 mod lines;
 mod lookups;
 mod parts;
+mod shortened;
 mod single;
-mod stop;
 mod tables;
-mod text;
 mod whole;
 
-use desk::Desk;
+use desk::{Desk, Ended};
 use families::paragraph;
 use std::io::Read;
 
 // Goes through the paragraphs, each with a family of its own and all with one session.
-fn drilled(rt: &HostRuntime, text: &str, desk: Desk) -> (Desk, anyhow::Result<()>) {
-    let mut desk = desk;
+fn drilled(rt: &HostRuntime, text: &str, mut desk: Desk) -> Result<Desk, Ended> {
     for part in text.split("\n\n") {
-        let (after, came) = paragraph(rt, part, desk);
-        desk = after;
-        if came.is_err() {
-            return (desk, came);
-        }
+        desk = paragraph(rt, part, desk)?;
     }
-    (desk, Ok(()))
+    Ok(desk)
 }
 
 // Answers standard input. A lookup that waits at the end is given up.
 fn run(rt: &HostRuntime) -> anyhow::Result<()> {
     let mut input = String::new(rt.alloc());
     let _ = rt.stdin().read_to_string(&mut input)?;
-    let (desk, came) = drilled(rt, input.as_str(), Desk::at_first(rt.alloc()));
-    desk.close();
-    came
+    // by hand, since the session is closed either way
+    match drilled(rt, input.as_str(), Desk::at_first(rt.alloc())) {
+        Ok(desk) => {
+            desk.close();
+            Ok(())
+        }
+        Err(Ended { desk, error }) => {
+            desk.close();
+            Err(error)
+        }
+    }
 }
 
 fn main(rt: HostRuntime) -> anyhow::Result<()> {

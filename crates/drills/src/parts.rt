@@ -1,9 +1,8 @@
 // Hosts as words write them: single hosts with a plus between two, each with colons between its parts.
 use crate::hosts::Any;
 use crate::single::Single;
-use crate::stop::Stop;
-use crate::text::{bytes_of, number};
 use host::{ChangeHost, Dense, Sum};
+use notation::{Stop, bytes_of, number};
 use std::alloc::{AllocError, Global};
 
 // What a single host is made of: its table as a row, or a change host.
@@ -38,6 +37,8 @@ fn part_of(heap: Global, word: &str) -> Result<Part, Stop> {
     }
 }
 
+// The part of a row that is a table. The host is made here only to try the row, and once more by `host`: it borrows its row, so no part
+// can hold both.
 fn dense(row: Vec<u8>) -> Result<Part, Stop> {
     let _ = Dense::new(&row)?;
     Ok(Part::Row(row))

@@ -3,7 +3,7 @@ use family::Family;
 use faults::Fault;
 use host::{ChangeHost, Dense, Host};
 
-// A dense host or a change host.
+// A dense host or a change host. An enum, and no `dyn Host`, since `answer` is generic in the family.
 #[derive(Clone, Copy)]
 pub(crate) enum Single<'a> {
     Dense(Dense<'a>),

@@ -1,9 +1,9 @@
 // Drills of hosts: one is made, answers a query, tells its entries, or is given changes.
 use crate::parts::{host_of, parts_of, set};
-use crate::stop::{Stop, answer_of};
-use crate::text::{Refusal, Spaced, bytes_of, number};
+use crate::shortened::Shortened;
 use family::Family;
 use host::{Change, ChangeHost, Dense, Host};
+use notation::{Refusal, Stop, answer_of, bytes_of, number};
 use std::alloc::{AllocError, Global};
 
 // Whether a host is made.
@@ -13,7 +13,8 @@ pub(crate) fn made(heap: Global, host: &str) -> Result<String, Stop> {
     Ok(format!(in heap; "count {}", host.count())?)
 }
 
-// What a sheet holds after an answer, or after its refusal.
+// What a sheet holds after an answer, or after its refusal. Here and in the other drills an array of `&str` is words of one line as they
+// stand there, unread; what is read has a parameter of its own.
 pub(crate) fn answered<F: Family>(
     heap: Global,
     family: &F,
@@ -23,8 +24,8 @@ pub(crate) fn answered<F: Family>(
     let host = host_of(&parts)?;
     let mut sheet = bytes_of(heap, sheet)?;
     match host.answer(family, &bytes_of(heap, query)?, &mut sheet) {
-        Ok(_) => Ok(format!(in heap; "sheet{}", Spaced(&sheet))?),
-        Err(fault) => Ok(format!(in heap; "{} sheet{}", Refusal(fault), Spaced(&sheet))?),
+        Ok(_) => Ok(format!(in heap; "sheet{}", Shortened(&sheet))?),
+        Err(fault) => Ok(format!(in heap; "{} sheet{}", Refusal(fault), Shortened(&sheet))?),
     }
 }
 

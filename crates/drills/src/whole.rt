@@ -3,26 +3,28 @@ use crate::desk::{Counted, Desk, Pair, Seen};
 use crate::hosts::Any;
 use crate::lookups::said;
 use crate::parts::{Part, host_of, parts_of};
-use crate::stop::Stop;
-use crate::text::{Refusal, number};
 use family::Family;
 use faults::Fault;
+use notation::{Refusal, Stop, number};
 use rounds::{Reading, Rows, check_round, round};
 use session::Ready;
 use std::alloc::Global;
 
-// What a round is handed: rows for two queries and two sheets, and what two hosts are made of.
+// What a round is handed: a position, rows for two queries and two sheets, and what two hosts are made of. A method that lends the rows as
+// `Rows` was tried: the borrow checker does not cover one that hands out several fields of a `&mut self`.
 #[derive(Drop)]
 pub(crate) struct Given {
+    t: usize,
     queries: Pair,
     sheets: Pair,
     one: Vec<Part>,
     two: Vec<Part>,
 }
 
-// What the words of a line hand to a round: four lengths and two hosts.
-pub(crate) fn handed(heap: Global, [a, b, c, d, one, two]: [&str; 6]) -> Result<Given, Stop> {
+// What the words of a line hand to a round: a position, four lengths and two hosts.
+pub(crate) fn handed(heap: Global, [t, a, b, c, d, one, two]: [&str; 7]) -> Result<Given, Stop> {
     Ok(Given {
+        t: number(t),
         queries: Pair::unwritten(heap, a, b)?,
         sheets: Pair::unwritten(heap, c, d)?,
         one: parts_of(heap, one)?,
@@ -35,31 +37,18 @@ pub(crate) fn whole_round<F: Family>(
     heap: Global,
     family: &F,
     session: Ready,
-    t: &str,
-    given: Result<Given, Stop>,
+    given: Given,
 ) -> Seen {
-    match given {
-        Ok(given) => {
-            let Given {
-                queries,
-                sheets,
-                one,
-                two,
-            } = given;
-            match hosts_of(&one, &two) {
-                Ok((one, two)) => played(
-                    heap,
-                    family,
-                    session,
-                    number(t),
-                    queries,
-                    sheets,
-                    &one,
-                    &two,
-                ),
-                Err(stop) => (Desk::Ready(session), Err(stop)),
-            }
-        }
+    let Given {
+        t,
+        queries,
+        sheets,
+        one,
+        two,
+    } = given;
+    match hosts_of(&one, &two) {
+        Ok((one, two)) => played(heap, family, session, t, queries, sheets, &one, &two),
+        // by hand: the hosts borrow their parts, so what is read before cannot hold them, and a `?` would drop the session
         Err(stop) => (Desk::Ready(session), Err(stop)),
     }
 }
@@ -69,15 +58,15 @@ pub(crate) fn check_whole<F: Family>(
     heap: Global,
     family: &F,
     session: &Ready,
-    t: &str,
-    given: Result<Given, Stop>,
+    given: Given,
 ) -> Result<String, Stop> {
     let Given {
+        t,
         mut queries,
         mut sheets,
         one,
         two,
-    } = given?;
+    } = given;
     let (one, two) = hosts_of(&one, &two)?;
     let rows = Rows {
         first_query: &mut queries.first,
@@ -85,7 +74,7 @@ pub(crate) fn check_whole<F: Family>(
         first_sheet: &mut sheets.first,
         second_sheet: &mut sheets.second,
     };
-    check_round(session, family, &one, &two, number(t), &rows)?;
+    check_round(session, family, &one, &two, t, &rows)?;
     said(heap, "would be taken")
 }
 

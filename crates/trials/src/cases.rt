@@ -3,24 +3,15 @@ use crate::elements::{alone, cut, drawn, multiplied, reduced, together, written}
 use crate::families::ask;
 use crate::recoveries::{entry, recovered, weighed};
 use crate::reports::Told;
-use crate::stop::Stop;
-use crate::text::{Refusal, bytes_of, number};
 use books::{Book, examine};
 use family::{FirstPart, UnitFamily};
 use faults::Fault;
-use std::alloc::{AllocError, Global};
+use notation::{Stop, bytes_of, number};
+use std::alloc::Global;
 use words::Words;
 
-// The answer to one line: what its trial finds, or the refusal that stops it.
-pub(crate) fn answer_to(heap: Global, line: &str) -> Result<String, AllocError> {
-    tried(heap, line).or_else(|stop| match stop {
-        Stop::Refused(fault) => Refusal(fault).to_string(heap),
-        Stop::Memory(error) => Err(error),
-    })
-}
-
 // What the trial that a line asks for finds.
-fn tried(heap: Global, line: &str) -> Result<String, Stop> {
+pub(crate) fn tried(heap: Global, line: &str) -> Result<String, Stop> {
     let words: Vec<&str> = line.split(' ').collect(heap)?;
     let answer = match words.as_slice() {
         ["element", row, turn, scale] => alone(heap, row, turn, scale)?,
@@ -34,7 +25,7 @@ fn tried(heap: Global, line: &str) -> Result<String, Stop> {
         ["entry", x] => entry(heap, x)?,
         ["recover", h, q, t, shift, one, two] => {
             let family = Words::new(number(h), number(q))?;
-            recovered(heap, &family, [*t, *shift], one, two)?
+            recovered(heap, &family, number(t), number(shift), one, two)?
         }
         ["unit", n, rest @ ..] => ask(heap, &UnitFamily::new(number(n))?, rest)?,
         ["words", h, q, rest @ ..] => ask(heap, &Words::new(number(h), number(q))?, rest)?,
@@ -45,7 +36,7 @@ fn tried(heap: Global, line: &str) -> Result<String, Stop> {
         ["part", m, n, rest @ ..] => ask(heap, &part(number(m), number(n))?, rest)?,
         ["examine", bytes] => Told(examine(&bytes_of(heap, bytes)?)).to_string(heap)?,
         ["book", bytes, rest @ ..] => ask(heap, &Book::try_from(bytes_of(heap, bytes)?)?, rest)?,
-        _ => String::from_str(heap, "no such trial")?,
+        _ => return Err(Stop::Unclear("no such trial")),
     };
     Ok(answer)
 }

@@ -1,21 +1,17 @@
 // Trials of elements, vectors of digits and tapes.
-use crate::stop::Stop;
-use crate::text::{Refusal, Spaced, bytes_of, number};
-use digits::{Element, draw, vector_product};
+use digits::{Element, Spaced, draw, vector_product};
 use faults::Fault;
+use notation::{Refusal, Stop, bytes_of, number};
 use std::alloc::{AllocError, Global};
 use std::fmt;
 
-// An element's digits, as it writes them to a row of six.
+// An element's digits.
 #[derive(Clone, Copy)]
 pub(crate) struct Shown(pub(crate) Element);
 
 impl fmt::Display for Shown {
     fn fmt<W: fmt::Write>(&self, f: &mut fmt::Formatter<W>) -> fmt::Result {
-        // 9 is no digit, so a place that was not written would show
-        let mut row = [9u8; 6];
-        self.0.write(&mut row).unwrap();
-        write!(f, "{}", Spaced(&row))
+        write!(f, "{}", Spaced(&<[u8; 6]>::from(self.0)))
     }
 }
 
@@ -64,14 +60,14 @@ pub(crate) fn cut(heap: Global, row: &str, place: &str) -> Result<String, AllocE
 }
 
 // The element of six numbers; a row that is too short has none.
-pub(crate) fn reduced(heap: Global, row: &str) -> Result<String, AllocError> {
+pub(crate) fn reduced(heap: Global, row: &str) -> Result<String, Stop> {
     let row = bytes_of(heap, row)?;
     match row.as_slice() {
         [a, b, c, d, e, f, ..] => {
             let element = Element::from([*a, *b, *c, *d, *e, *f]);
-            format!(in heap; "modulo{}", Shown(element))
+            Ok(format!(in heap; "modulo{}", Shown(element))?)
         }
-        _ => String::from_str(heap, "no six numbers"),
+        _ => Err(Stop::Unclear("no six numbers")),
     }
 }
 

@@ -1,17 +1,14 @@
 // Trials of a family: its sizes, the vectors of a position, and the product and the spreading of one with a row.
-use crate::text::{Spaced, bytes_of, number};
+use digits::Spaced;
 use family::Family;
+use notation::{Stop, bytes_of, number};
 use std::alloc::{AllocError, Global};
 
 // What a line's last words ask of a family.
-pub(crate) fn ask<F: Family>(
-    heap: Global,
-    family: &F,
-    words: &[&str],
-) -> Result<String, AllocError> {
-    match words {
-        [] => sizes(heap, family),
-        [i] => vectors(heap, family, number(i)),
+pub(crate) fn ask<F: Family>(heap: Global, family: &F, words: &[&str]) -> Result<String, Stop> {
+    let answer = match words {
+        [] => sizes(heap, family)?,
+        [i] => vectors(heap, family, number(i))?,
         [i, amount, e, row] => worked(
             heap,
             family,
@@ -19,9 +16,10 @@ pub(crate) fn ask<F: Family>(
             number(amount),
             number(e),
             bytes_of(heap, row)?,
-        ),
-        _ => String::from_str(heap, "no such trial of a family"),
-    }
+        )?,
+        _ => return Err(Stop::Unclear("no such trial of a family")),
+    };
+    Ok(answer)
 }
 
 // The count and the dimension.

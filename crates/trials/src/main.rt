@@ -7,10 +7,9 @@ mod elements;
 mod families;
 mod recoveries;
 mod reports;
-mod stop;
-mod text;
 
-use cases::answer_to;
+use cases::tried;
+use notation::answer_of;
 use std::io::Read;
 
 // Answers each line of standard input by a line.
@@ -18,7 +17,7 @@ fn run(rt: &HostRuntime) -> anyhow::Result<()> {
     let mut input = String::new(rt.alloc());
     let _ = rt.stdin().read_to_string(&mut input)?;
     for line in input.as_str().lines() {
-        let answer = answer_to(rt.alloc(), line)?;
+        let answer = answer_of(rt.alloc(), tried(rt.alloc(), line))?;
         println!(rt; "{answer}")?;
     }
     Ok(())

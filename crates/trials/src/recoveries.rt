@@ -1,8 +1,7 @@
 // Trials of recovery: four elements weighed, an entry read, and two sheets taken through every step.
 use crate::elements::{Shown, element_of};
-use crate::stop::Stop;
-use crate::text::{bytes_of, number};
 use family::Family;
+use notation::{Stop, bytes_of};
 use scheme::{found, read_entry, sheets_weighed, slope, value};
 use std::alloc::{AllocError, Global};
 use std::fmt;
@@ -23,7 +22,7 @@ impl fmt::Display for Read {
 // Four elements, weighed.
 pub(crate) fn weighed(heap: Global, four: &[&str]) -> Result<String, Stop> {
     let [y1, y2, y3, y4] = four else {
-        return Ok(String::from_str(heap, "no four elements")?);
+        return Err(Stop::Unclear("no four elements"));
     };
     let w = scheme::weighed(
         element_of(heap, y1)?,
@@ -44,11 +43,11 @@ pub(crate) fn entry(heap: Global, x: &str) -> Result<String, Stop> {
 pub(crate) fn recovered<F: Family>(
     heap: Global,
     family: &F,
-    [t, shift]: [&str; 2],
+    t: usize,
+    shift: u8,
     one: &str,
     two: &str,
 ) -> Result<String, AllocError> {
-    let t = number(t);
     let one = bytes_of(heap, one)?;
     let two = bytes_of(heap, two)?;
     let y1 = Shown(value(&one));
@@ -56,7 +55,7 @@ pub(crate) fn recovered<F: Family>(
     let y3 = Shown(value(&two));
     let y4 = Shown(slope(family, t, &two));
     let w = Shown(sheets_weighed(family, t, &one, &two));
-    let x = found(family, t, number(shift), &one, &two);
+    let x = found(family, t, shift, &one, &two);
     let read = Read(read_entry(&x));
     format!(in heap; "y{y1} y{y2} y{y3} y{y4} w{w} x{} {read}", Shown(x))
 }

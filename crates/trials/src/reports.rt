@@ -1,7 +1,7 @@
 // Trials of an examination: what a report on a book holds.
-use crate::text::Refusal;
 use books::Report;
 use faults::Fault;
+use notation::Refusal;
 use std::fmt;
 
 // A number that was found, or a dash.

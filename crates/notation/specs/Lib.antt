@@ -1,0 +1,4 @@
+pub mod Numbers
+pub mod Bytes
+pub mod Answers
+pub mod Reading

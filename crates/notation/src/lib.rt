@@ -1,0 +1,15 @@
+// Notation: how the test benches read and print numbers, rows and refusals.
+
+#![tactic(auto)]
+
+pub mod answer;
+pub mod bytes;
+pub mod numbers;
+pub mod refusal;
+pub mod stop;
+
+pub use answer::answer_of;
+pub use bytes::bytes_of;
+pub use numbers::{Bounded, number};
+pub use refusal::Refusal;
+pub use stop::Stop;
