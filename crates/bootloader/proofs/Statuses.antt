@@ -1,7 +1,6 @@
 -- What a status says: 0 is no fault's number, and 8 is that of sheets at odds alone.
 use Rattle.std.proofs.Common.{◌≡◌, ℕ, List, length, Bool, true, false, cond, Some, None, Ok, Err, Option, Result, MatchOption, MatchResult, sym, refl, ◌∙◌, arith}
 use Rattle.faults.specs.declared.Cause.{Cause}
-use Rattle.faults.specs.declared.Cause.TheVariants.{Length, Digit, Size, Counts, Unmatched, Position, Spent, AtOdds, Full}
 use Rattle.faults.specs.declared.Fault.{Fault}
 use Rattle.faults.specs.declared.Layer.{Layer}
 use Rattle.faults.specs.Faults.{number_of, length_fault, digit_fault, size_fault, position_fault, at_odds_fault}
@@ -10,15 +9,7 @@ use Rattle.digits.specs.Refusals.{or_else, limit_fault, equal_fault, long_fault,
 use Rattle.scheme.specs.Sessions.{unless, read_or_odds}
 
 never_0 : (cause : Cause) → number_of cause ≡ 0 → ⊥
-never_0 (Length found) e = omega arith
-never_0 (Digit place) e = omega arith
-never_0 (Size found) e = omega arith
-never_0 (Counts second) e = omega arith
-never_0 (Unmatched i j) e = omega arith
-never_0 (Position found) e = omega arith
-never_0 (Spent left) e = omega arith
-never_0 (AtOdds position) e = omega arith
-never_0 (Full held) e = omega arith
+never_0 cause e = grind arith
 
 -- what a call promises where its status is 0
 pub taken : (P : Type 0) (Q : Fault → Type 0) (outcome : Result (Unit {0}) Fault) (status : ℕ) →
@@ -38,7 +29,7 @@ abbrev pub Other : Option Fault → Type 0
 Other o = (e : Fault) → o ≡ Some e → number_of e.cause ≡ 8 → ⊥
 
 test : (b : Bool) (f : Fault) → (number_of f.cause ≡ 8 → ⊥) → Other (cond b None (Some f))
-test true f not e is odd = let z : ◌≡◌ {A = ℕ} 0 1 = cc in omega arith
+test true f not e is odd = cc
 test false f not e is odd = let same : f ≡ e = cc in not (rw same odd)
 
 pub other_limit : (part : Layer) (low high n : ℕ) → Other (limit_fault part low high n)
@@ -63,7 +54,7 @@ other_or_else (Some f) second a b = a
 -- what is read is not what was amiss before, where it is an entry
 pub read_anyway : (amiss : Option Fault) (result : Result ℕ Fault) (e : ℕ) → unless amiss result ≡ Ok e → result ≡ Ok e
 read_anyway None result e is = is
-read_anyway (Some f) result e is = let z : ◌≡◌ {A = ℕ} 0 1 = cc in absurd (omega arith)
+read_anyway (Some f) result e is = cc
 
 -- nor where it is that the sheets are at odds
 pub odd_anyway : (amiss : Option Fault) (result : Result ℕ Fault) (e : Fault) → Other amiss → number_of e.cause ≡ 8 →
@@ -72,17 +63,11 @@ odd_anyway None result e other odd is = is
 odd_anyway (Some f) result e other odd is = let same : f ≡ e = cc in absurd (other f refl (rw same odd))
 
 pub odds_only : (t : ℕ) (found : Option ℕ) (e : Fault) → read_or_odds t found ≡ Err e → e ≡ at_odds_fault t
-odds_only t (Some x) e is = let z : ◌≡◌ {A = ℕ} 0 1 = cc in absurd (omega arith)
+odds_only t (Some x) e is = cc
 odds_only t None e is = cc
 
--- A call whose status is 0 refused nothing; one with another status was refused.
+-- A call from C whose status is 0 refused nothing.
 pub went_on : (P : Type 0) (Q : Fault → Type 0) (amiss : Option Fault) (status : ℕ) → MatchOption amiss P Q →
     ((e : Fault) → Q e → status ≡ number_of e.cause) → status ≡ 0 → (amiss ≡ None) × P
 went_on P Q None status promise tells zero = (refl, promise)
 went_on P Q (Some e) status promise tells zero = absurd (never_0 e.cause (sym (tells e promise) ∙ zero))
-
-pub stopped : (P : Type 0) (Q : Fault → Type 0) (amiss : Option Fault) (status : ℕ) → MatchOption amiss P Q → (P → status ≡ 0) →
-    ((e : Fault) → Q e → status ≡ number_of e.cause) → (status ≡ 0 → ⊥) →
-    (e : Fault) × (amiss ≡ Some e) × (status ≡ number_of e.cause)
-stopped P Q None status promise passes tells not = absurd (not (passes promise))
-stopped P Q (Some e) status promise passes tells not = (e, refl, tells e promise)

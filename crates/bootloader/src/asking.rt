@@ -39,11 +39,9 @@ fn write_request(
     check_length(second, k)?;
     check_length(shift, 1)?;
     check_below(Layer::Session, family.count(), position as usize)?;
-    if tape.len() < k {
-        return Err(Fault::spent(tape.len()));
-    }
+    let digits = tape.get(..k).ok_or(Fault::spent(tape.len()))?;
     check_digits(tape)?;
-    shift[0] = write_queries(&family, position as usize, &tape[..k], first, second);
+    shift[0] = write_queries(&family, position as usize, digits, first, second);
     Ok(())
 }
 

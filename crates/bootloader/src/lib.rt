@@ -1,4 +1,6 @@
-// The calls from C: a request, a host's answer and a recovery, each on rows alone.
+// The calls from C: a request, a host's answer and a recovery, each on rows alone. A program in C hands
+// over numbers and rows one by one: so each call takes a list of them, and so does what is behind it. Each returns its
+// status as a number, since a program in C takes no `Result`.
 
 #![tactic(auto)]
 

@@ -10,7 +10,8 @@ use crate::recovering::visordate_recover;
 
 // Requests the entry at a position, has two hosts of one table answer into zeroed sheets, and recovers. So the calls that a program
 // in C makes in turn are a run of which the law speaks, and the law, as the request promises it, gives the entry. It is here to be
-// proved, and no caller gets it: where a later call is refused, what the earlier ones wrote stays written.
+// proved, by the calls' numbers alone, and no caller gets it: where a later call is refused, what the earlier ones wrote stays
+// written.
 pub(crate) fn look_up(
     h: u32,
     q: u32,

@@ -15,30 +15,7 @@ use scheme::sheet_size;
 use session::read_sheets;
 use words::Words;
 
-// The entry that two sheets come to for a position and a row of one shift, or why there is none.
-fn read(
-    h: u32,
-    q: u32,
-    position: u32,
-    shift: &[u8],
-    one: &[u8],
-    two: &[u8],
-    entry: &[u8],
-) -> Result<u8, Fault>
-    ensures { result ≡ call_outcome h q position shift.now one.now two.now entry.now }
-{
-    let family = Words::new(h as usize, q as usize)?;
-    let size = sheet_size(&family);
-    check_length(shift, 1)?;
-    check_length(one, size)?;
-    check_length(two, size)?;
-    check_length(entry, 1)?;
-    check_below(Layer::Session, family.count(), position as usize)?;
-    check_digits(shift)?;
-    read_sheets(&family, position as usize, shift[0], one, two)
-}
-
-// Writes the entry, or refuses and leaves the row for it.
+// Writes the entry that two sheets come to for a position and a row of one shift, or refuses and leaves the row for it.
 fn write_entry(
     h: u32,
     q: u32,
@@ -52,7 +29,15 @@ fn write_entry(
         (λ _. MatchResult (call_outcome h q position shift.now one.now two.now entry.old) (λ e. entry.new ≡ e ∷ []) (λ _. ⊥))
         (λ e. (call_outcome h q position shift.now one.now two.now entry.old ≡ Err e) × (entry.new ≡ entry.old)) }
 {
-    entry[0] = read(h, q, position, shift, one, two, entry)?;
+    let family = Words::new(h as usize, q as usize)?;
+    let size = sheet_size(&family);
+    check_length(shift, 1)?;
+    check_length(one, size)?;
+    check_length(two, size)?;
+    check_length(entry, 1)?;
+    check_below(Layer::Session, family.count(), position as usize)?;
+    check_digits(shift)?;
+    entry[0] = read_sheets(&family, position as usize, shift[0], one, two)?;
     Ok(())
 }
 
@@ -72,7 +57,8 @@ pub extern "C" fn visordate_recover(
         (λ e. (result ≡ number_of e.cause) × (entry.new ≡ entry.old)) }
     ensures read { let f = word_vectors h q in
         (s : Session) → s.count ≡ f.count → s.dim ≡ f.dim → result ≡ 0 →
-        Step (waiting s position (at shift.now 0)) (recover f first.now second.now) (recovered (Ok (at entry.new 0))) (ready (after_reading s)) }
+        Step (waiting s position (at shift.now 0)) (recover f first.now second.now)
+        (recovered (Ok (at entry.new 0))) (ready (after_reading s)) }
     ensures at_odds { let f = word_vectors h q in
         (s : Session) → s.count ≡ f.count → s.dim ≡ f.dim → result ≡ 8 →
         Step (waiting s position (at shift.now 0)) (recover f first.now second.now)

@@ -2,7 +2,7 @@ use Rattle.scheme.proofs.Recovering.{recovering}
 use Rattle.scheme.proofs.Hiding.{hiding}
 use Rattle.words.specs.Words.{word_vectors}
 use Rattle.bootloader.proofs.Statuses.{taken}
-use Rattle.bootloader.proofs.Requests.{step_asked, digits_given}
+use Rattle.bootloader.proofs.Requests.{step_asked, tests}
 use Rattle.bootloader.proofs.asking.visordate_request.Goals as goal
 
 pub returns-clause-step : goal.returns-clause-step
@@ -14,7 +14,7 @@ returns-clause-step c = λ s count dim rest zero.
 pub returns-clause-digits : goal.returns-clause-digits
 returns-clause-digits c = λ zero.
     let wrote = taken _ _ _ _ c.write_request.ensures c.status.ensures zero in
-    digits_given c.args.h c.args.q c.args.position c.args.tape.now c.args.first.now c.args.second.now c.args.shift.now wrote.0
+    (tests c.args.h c.args.q c.args.position c.args.tape.now c.args.first.now c.args.second.now c.args.shift.now wrote.0).digits
 
 pub returns-clause-recovers : goal.returns-clause-recovers
 returns-clause-recovers c = recovering (word_vectors c.args.h c.args.q)

@@ -1,4 +1,4 @@
-use Rattle.std.proofs.Common.{◌≡◌, None, rules, ap₂}
+use Rattle.std.proofs.Common.{◌≡◌, None, take, rules, ap₂}
 use Rattle.words.specs.Words.{word_vectors}
 use Rattle.bootloader.specs.Calls.{asked_fault}
 use Rattle.bootloader.proofs.Requests.{writes}
@@ -9,5 +9,6 @@ returns c =
     let family = c.in_ok-family.ensures in
     let wrote = c.write_queries.ensures in
     let none : asked_fault c.args.h c.args.q c.args.position c.args.tape.now c.args.first.now c.args.second.now c.args.shift.now ≡ None = search rules in
-    writes _ _ _ _ _ _ _ _ _ _ _ _ (ap₂ word_vectors family.letters family.alphabet) c.dimension-k.ensures c.in_ok-check_length-3.ensures.fits
-    wrote.first wrote.second wrote.shift none
+    let taken : c.in_ok-digits.digits.now ≡ take c.dimension-k.result c.args.tape.now = search rules in
+    writes _ _ _ _ _ _ _ _ _ _ _ _ _ (ap₂ word_vectors family.letters family.alphabet) c.dimension-k.ensures c.in_ok-check_length-3.ensures.fits
+    taken wrote.first wrote.second wrote.shift none
