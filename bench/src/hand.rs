@@ -24,35 +24,26 @@ pub fn request(
     second: &mut [u8],
     shift: &mut [u8],
 ) -> u32 {
-    status(requested(h, q, position, tape, first, second, shift))
-}
-
-fn requested(
-    h: u32,
-    q: u32,
-    position: u32,
-    tape: &[u8],
-    first: &mut [u8],
-    second: &mut [u8],
-    shift: &mut [u8],
-) -> Result<(), Refusal> {
-    let words = family(h, q)?;
-    let k = words.dimension();
-    check(first.len() == k, LENGTH)?;
-    check(second.len() == k, LENGTH)?;
-    check(shift.len() == 1, LENGTH)?;
-    check((position as usize) < words.count(), POSITION)?;
-    check(tape.len() >= k, SPENT)?;
-    check(digits(tape), DIGIT)?;
-    first.copy_from_slice(&tape[..k]);
-    second.copy_from_slice(first);
-    let mut sum = 0;
-    for (coordinate, weight) in words.own(position as usize) {
-        sum += first[coordinate];
-        add(&mut second[coordinate], weight);
-    }
-    shift[0] = sum % 6;
-    Ok(())
+    let mut made = || -> Result<(), Refusal> {
+        let words = family(h, q)?;
+        let k = words.dimension();
+        check(first.len() == k, LENGTH)?;
+        check(second.len() == k, LENGTH)?;
+        check(shift.len() == 1, LENGTH)?;
+        check((position as usize) < words.count(), POSITION)?;
+        check(tape.len() >= k, SPENT)?;
+        check(digits(tape), DIGIT)?;
+        first.copy_from_slice(&tape[..k]);
+        second.copy_from_slice(first);
+        let mut sum = 0;
+        for (coordinate, weight) in words.own(position as usize) {
+            sum += first[coordinate];
+            add(&mut second[coordinate], weight);
+        }
+        shift[0] = sum % 6;
+        Ok(())
+    };
+    status(made())
 }
 
 /// Reads the entry from two sheets; gives 0, or the number of the refusal.
@@ -65,32 +56,23 @@ pub fn recover(
     second: &[u8],
     entry: &mut [u8],
 ) -> u32 {
-    status(recovered(h, q, position, shift, first, second, entry))
-}
-
-fn recovered(
-    h: u32,
-    q: u32,
-    position: u32,
-    shift: &[u8],
-    first: &[u8],
-    second: &[u8],
-    entry: &mut [u8],
-) -> Result<(), Refusal> {
-    let words = family(h, q)?;
-    check(shift.len() == 1, LENGTH)?;
-    check(first.len() == words.sheet(), LENGTH)?;
-    check(second.len() == words.sheet(), LENGTH)?;
-    check(entry.len() == 1, LENGTH)?;
-    check((position as usize) < words.count(), POSITION)?;
-    check(digits(shift), DIGIT)?;
-    check(digits(first), DIGIT)?;
-    check(digits(second), DIGIT)?;
-    let (y1, y2) = value_and_slope(words, position as usize, first);
-    let (y3, y4) = value_and_slope(words, position as usize, second);
-    let w = weighed([(C1, y1), (C2, y2), (C3, y3), (C4, y4)]);
-    entry[0] = read(w, usize::from(shift[0]))?;
-    Ok(())
+    let mut read_out = || -> Result<(), Refusal> {
+        let words = family(h, q)?;
+        check(shift.len() == 1, LENGTH)?;
+        check(first.len() == words.sheet(), LENGTH)?;
+        check(second.len() == words.sheet(), LENGTH)?;
+        check(entry.len() == 1, LENGTH)?;
+        check((position as usize) < words.count(), POSITION)?;
+        check(digits(shift), DIGIT)?;
+        check(digits(first), DIGIT)?;
+        check(digits(second), DIGIT)?;
+        let (y1, y2) = value_and_slope(words, position as usize, first);
+        let (y3, y4) = value_and_slope(words, position as usize, second);
+        let w = weighed([(C1, y1), (C2, y2), (C3, y3), (C4, y4)]);
+        entry[0] = read(w, usize::from(shift[0]))?;
+        Ok(())
+    };
+    status(read_out())
 }
 
 /// A sheet's value, and the sum of the digits of v times the sheet's elements.
