@@ -24,6 +24,7 @@ pub mod Shown
 pub mod Rerun
 pub mod Hiding
 -- more facts about runs and hosts
+pub mod Fitting
 pub mod Steps
 pub mod Counters
 pub mod Tables

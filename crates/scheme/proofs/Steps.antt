@@ -1,12 +1,13 @@
 -- A session is opened on every tape of digits, and each call in turn has one step: by the tests that a request meets, and since nothing else is left open.
-use Rattle.std.proofs.Common.{◌≡◌, ℕ, List, None, Some, Option, refl, sym, ap, ◌∙◌}
+use Rattle.std.proofs.Common.{◌≡◌, ℕ, List, None, Some, Ok, Option, refl, sym, ap, ◌∙◌}
 use Rattle.faults.specs.declared.Fault.{Fault}
 use Rattle.digits.proofs.DigitRows.{digits_pass, digits_from}
 use Rattle.family.specs.Vectors.{Vectors}
 use Rattle.scheme.specs.Queries.{second_query, shift}
 use Rattle.scheme.specs.Sessions.{Session, digits_left, next_digits, request_fault, outcome, after_request, after_recovery, after_loss}
 use Rattle.scheme.specs.Runs.{State, ready, waiting, Call, request, recover, abandon, Event, asked, declined, recovered, abandoned, Step, takes, declines, recovers, abandons}
-use Rattle.scheme.specs.Steps.{InTurn, OneStep}
+use Rattle.scheme.specs.Steps.{InTurn, Readable, OneStep}
+use Rattle.scheme.proofs.Fitting.{takes_all, takes_no_other, reads_all, readable_from}
 
 -- a request is taken, or declined with a fault
 request_step : (s : Session) (f : Vectors) (t l m : ℕ) (met : Option Fault) → request_fault s.count s.dim (digits_left s) f t l m ≡ met →
@@ -58,5 +59,19 @@ same_step (declines s f t l m fault h) other = request_told other (Some fault) h
 same_step (recovers s t turn f one two) other = recovery_told other
 same_step (abandons s t turn) other = abandonment_told other
 
+reads_no_other : {s : Session} {f : Vectors} {t turn : ℕ} {one two : List ℕ} {e : ℕ} {n : State} →
+    Step (waiting s t turn) (recover f one two) (recovered (Ok e)) n → Readable s f t turn one two e
+reads_no_other {s = s} {f = f} {t = t} {turn = turn} {one = one} {two = two} {e = e} step = readable_from s f t turn one two e (cc (recovery_told step).0)
+
 pub stepping : OneStep
-stepping = record { opens = digits_from; opens_all = digits_pass; some_step = some_step; same_step = same_step; no_other = no_other }
+stepping = record {
+  opens = digits_from;
+  opens_all = digits_pass;
+  some_step = some_step;
+  same_step = same_step;
+  no_other = no_other;
+  takes_all = takes_all;
+  takes_no_other = takes_no_other;
+  reads_all = reads_all;
+  reads_no_other = reads_no_other;
+}

@@ -1,5 +1,5 @@
 -- Hosts of tables: entries at positions tell a table, and a sum answers with the sum of the answers.
-use Rattle.std.proofs.Common.{◌≡◌, ℕ, ◌+◌, ◌-◌, ◌*◌, ◌/◌, ◌%◌, ◌<◌, cond, ltb, List, ap, ap₂, ◌∙◌, arith}
+use Rattle.std.proofs.Common.{◌≡◌, ℕ, ◌+◌, ◌-◌, ◌*◌, ◌/◌, ◌%◌, ◌<◌, cond, ltb, List, refl, ap, ap₂, ◌∙◌, arith}
 use Rattle.std.proofs.lemmas.Grind.{common_steps}
 use Rattle.digits.specs.Rows.{at, row}
 use Rattle.digits.specs.Sums.{same}
@@ -63,6 +63,8 @@ sum_host f a b one two first second p sheet query fits =
 
 pub tables : HostsOfTables
 tables = record {
+  some_host = λ f a p sheet query fits. refl;
+  other_rows = λ f a host other same keeps p sheet query fits. same p sheet query fits ∙ keeps p sheet query fits;
   same_entries = λ f a b same_table host keeps p sheet query fits. keeps p sheet query fits ∙ same_answered f a b same_table p sheet;
   sum_digits = λ f a b i h. omega arith;
   sum_answers = sum_answers;

@@ -2,7 +2,7 @@
 use Rattle.std.proofs.Common.{◌≡◌, ℕ, ◌<◌, ◌≤◌, None, ltb, leb, ltb-true, leb-true, arith}
 use Rattle.faults.specs.declared.Layer.TheVariants.{Session as SessionLayer}
 use Rattle.digits.specs.Refusals.{width_fault, equal_fault, below_fault}
-use Rattle.digits.proofs.Passing.{passed, or_else_none, equal_is}
+use Rattle.digits.proofs.Passing.{passed, or_else_none, equal_is, width_is}
 use Rattle.family.specs.Vectors.{Vectors}
 use Rattle.scheme.specs.Sessions.{family_fault, tape_fault, request_fault}
 
@@ -28,3 +28,11 @@ taken n k left f t l m e =
     let (position, room) = or_else_none (below_fault SessionLayer n t) (tape_fault k left) last in
     let below : t < n = ltb-true t n (passed (ltb t n) _ position) in
     record { family_passes = family; dim_is = dim_is; below_count = omega arith; room = leb-true k left (passed (leb k left) _ room) }
+
+-- and that both rows are as long as a query
+pub widths : (n k left : ℕ) (f : Vectors) (t l m : ℕ) → request_fault n k left f t l m ≡ None → (l ≡ k) × (m ≡ k)
+widths n k left f t l m e =
+    let (family, rest) = or_else_none (family_fault n k f) _ e in
+    let (first, more) = or_else_none (width_fault k l) _ rest in
+    let (second, last) = or_else_none (width_fault k m) _ more in
+    (width_is k l first, width_is k m second)

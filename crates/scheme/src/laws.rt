@@ -12,8 +12,8 @@ pub fn law_of_runs()
 {}
 
 // Holds in its contract that opening refuses exactly the rows that are no tape of digits; that a ready session takes every
-// request, and a waiting one every recovery and abandonment; that what such a call shows, and where it leads, is settled; and
-// that no state takes another call.
+// request, and a waiting one every recovery and abandonment; that what such a call shows, and where it leads, is settled; that
+// no state takes another call; and that exactly the requests that fit are taken, and exactly the entries read that can be.
 #[tactic(auto, using(crate::proofs::Steps::stepping))]
 pub fn one_step()
     ensures { OneStep }
@@ -27,8 +27,8 @@ pub fn run_counters()
     ensures { RunCounters }
 {}
 
-// Holds in its contract that a table is told by its entries at positions, and that the sum of two tables answers with the
-// sum of the answers, so that hosts of two tables, one after the other on a sheet, are a host of the sum.
+// Holds in its contract that each table has a host, that a table is told by its entries at positions, and that the sum of two
+// tables answers with the sum of the answers, so that hosts of two tables, one after the other on a sheet, are a host of the sum.
 #[tactic(auto, using(crate::proofs::Tables::tables))]
 pub fn hosts_of_tables()
     ensures { HostsOfTables }

@@ -1,1 +1,2 @@
 pub mod WorkedNumbers
+pub mod LawNumbers

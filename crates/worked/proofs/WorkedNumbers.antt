@@ -15,7 +15,9 @@ use Rattle.scheme.specs.Queries.{second_query}
 use Rattle.scheme.specs.Recovery.{sheets_weighed}
 use Rattle.scheme.specs.Sessions.{outcome}
 use Rattle.scheme.specs.Runs.{takes, declines, recovers, abandons, none, more}
-use Rattle.worked.specs.WorkedCases.{first_sheet, second_sheet, lone_value, no_value, WorkedCases}
+use Rattle.worked.specs.WorkedCases.{WorkedCases}
+use Rattle.worked.specs.WorkedSession.{first_sheet, second_sheet, lone_value, no_value}
+use Rattle.worked.proofs.LawNumbers.{law_numbers}
 
 pub worked : WorkedCases
 unfolding total sum_of times_digit mark choose word_digit answered second_query sheets_weighed outcome
@@ -37,6 +39,7 @@ worked =
           (more (recovers _ 1 0 smallest lone_value no_value)
           (more (declines _ smallest 2 3 3 (position_fault SessionLayer 2) refl)
           (more (declines _ smallest 1 3 3 (spent_fault 0) refl) none)))))));
+      law = law_numbers;
       looks_alike = refl;
       at_odds = refl;
       no_entry = (refl, refl, refl);

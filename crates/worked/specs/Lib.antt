@@ -1,1 +1,3 @@
+pub mod WorkedSession
+pub mod LawCases
 pub mod WorkedCases

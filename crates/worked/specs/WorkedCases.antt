@@ -1,61 +1,20 @@
 -- Worked cases of the definitions, by their numbers: those of families, and those of the scheme.
-use Rattle.std.specs.Prelude.{◌≡◌, ℕ, List, [], ◌∷◌, ◌++◌, None, Some, Ok, Err, slice_set}
+use Rattle.std.specs.Prelude.{◌≡◌, ℕ, List, [], ◌∷◌, ◌++◌, None, Some, Ok, Err}
 use Rattle.faults.specs.declared.Layer.TheVariants.{Session as SessionLayer}
 use Rattle.faults.specs.Faults.{length_fault, digit_fault, size_fault, position_fault, spent_fault, at_odds_fault}
-use Rattle.digits.specs.Rows.{at}
 use Rattle.digits.specs.Elements.{zero_element, power, scaled, turned}
 use Rattle.digits.specs.Ring.{one_element}
 use Rattle.words.specs.FamilyCases.{smallest, FamilyCases}
-use Rattle.scheme.specs.Answers.{zero_sheet, sheet_of}
 use Rattle.scheme.specs.Queries.{second_query, shift}
 use Rattle.scheme.specs.Recovery.{D, weighed, sheets_weighed, entry, read_entry}
-use Rattle.scheme.specs.Sessions.{Session, opened, opening_fault, request_fault, outcome}
-use Rattle.scheme.specs.Runs.{Run, ready, request, recover, abandon, asked, declined, recovered, abandoned}
+use Rattle.scheme.specs.Sessions.{opened, opening_fault, request_fault, outcome}
+use Rattle.scheme.specs.Runs.{Run, ready}
+use Rattle.worked.specs.LawCases.{LawCases}
+use Rattle.worked.specs.WorkedSession.{tape, first_sheet, second_sheet, whole_tape, used_up, lone_value, no_value, short_row, other_short_row, spoilt_row, other_spoilt_row, calls, shown}
 
 -- C1 + l C2 + g^l C3 + l g^l C4, what the weights come to where the product of u(i) and v(t) is l
 abbrev pub weights_at : ℕ → List ℕ
 weights_at l = weighed one_element (scaled l one_element) (power 1 l) (scaled l (power 1 l))
-
--- A lookup in the table 2, 5, for position 1, with the tape 3, 1, 4: the sheets of the two queries. The family is that of
--- words of one letter from an alphabet of two, with two positions and three coordinates.
-abbrev pub table : ℕ → ℕ
-table = at (2 ∷ 5 ∷ [])
-
-abbrev pub tape : List ℕ
-tape = 3 ∷ 1 ∷ 4 ∷ []
-
-abbrev pub first_sheet : List ℕ
-first_sheet = sheet_of smallest table tape
-
-abbrev pub second_sheet : List ℕ
-second_sheet = sheet_of smallest table (second_query smallest 1 tape)
-
--- a tape for three requests, and what a session on it keeps once it is used up: one lookup was read, and two ended unread
-abbrev pub whole_tape : List ℕ
-whole_tape = 3 ∷ 1 ∷ 4 ∷ 2 ∷ 0 ∷ 5 ∷ 1 ∷ 4 ∷ 5 ∷ []
-
-abbrev pub used_up : Session
-used_up = record { count = 2; dim = 3; tape = whole_tape; place = 9; taken = 3; read = 1; unread = 2 }
-
--- Two sheets at odds: one has the value 1 and is 0 elsewhere, the other is 0 throughout.
-abbrev pub lone_value : List ℕ
-lone_value = (1 ∷ 0 ∷ 0 ∷ 0 ∷ 0 ∷ 0 ∷ []) ++ zero_element ++ zero_element ++ zero_element
-
-abbrev pub no_value : List ℕ
-no_value = zero_sheet smallest
-
--- rows that are no sheets: two that are too short, and two that hold a byte above 5, at the places 7 and 0
-abbrev pub short_row : List ℕ
-short_row = 6 ∷ []
-
-abbrev pub other_short_row : List ℕ
-other_short_row = 7 ∷ 8 ∷ []
-
-abbrev pub spoilt_row : List ℕ
-spoilt_row = slice_set no_value 7 6
-
-abbrev pub other_spoilt_row : List ℕ
-other_spoilt_row = slice_set no_value 0 9
 
 -- What a session of this family refuses, in order: in each line what comes before is in order, and all that comes after is not.
 pub record Refusals : Type 0 where
@@ -92,12 +51,9 @@ pub record WorkedCases : Type 0 where
   -- A session in which that lookup is requested and read; another is requested and abandoned; a third is requested with just
   -- as many tape digits left as it takes, and its sheets are at odds; and two requests are refused, for a position and for
   -- want of digits.
-  pub run : Run (ready (opened smallest whole_tape))
-      (request smallest 1 3 3 ∷ recover smallest first_sheet second_sheet ∷ request smallest 0 3 3 ∷ abandon
-      ∷ request smallest 1 3 3 ∷ recover smallest lone_value no_value ∷ request smallest 2 3 3 ∷ request smallest 1 3 3 ∷ [])
-      (asked tape (4 ∷ 1 ∷ 3 ∷ []) ∷ recovered (Ok 5) ∷ asked (2 ∷ 0 ∷ 5 ∷ []) (3 ∷ 5 ∷ 5 ∷ []) ∷ abandoned
-      ∷ asked (1 ∷ 4 ∷ 5 ∷ []) (2 ∷ 4 ∷ 4 ∷ []) ∷ recovered (Err (at_odds_fault 1)) ∷ declined (position_fault SessionLayer 2)
-      ∷ declined (spent_fault 0) ∷ []) (ready used_up)
+  pub run : Run (ready (opened smallest whole_tape)) calls shown (ready used_up)
+  -- what the law of all runs speaks of, at that session
+  pub law : LawCases
   -- to the second host the lookup looks as one of position 0 does with another tape
   pub looks_alike : second_query smallest 0 (3 ∷ 2 ∷ 3 ∷ []) ≡ second_query smallest 1 tape
   -- W of two sheets at odds, and that it has no entry: it would be 5, and 5 D is something else
