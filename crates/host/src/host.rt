@@ -13,6 +13,7 @@ pub const MOST_ENTRIES: usize = 1_048_576;
 // and database.) What this interface promises is the answering rule: whatever keeps it is a host, and what is proved of code
 // that takes any host is proved from this rule alone.
 pub trait Host {
+    // what a host means: its count and its table
     ghost holding: { Self → Holding };
 
     // How many entries the table has, from 1 to 1,048,576.
@@ -28,5 +29,6 @@ pub trait Host {
             (λ e. (answer_fault (holding self.now).count (F.Family.vectors family.now) query.now sheet.old ≡ Some e)
             × (sheet.new ≡ sheet.old)) };
 
+    // the law that each kind is proved to keep: a count within its limits, digits, and 0 beyond the last position
     ghost held_well: { (h : Self) → WellHeld (holding h) };
 }

@@ -7,6 +7,7 @@ use Rattle.session.specs.declared.states.Kept.{Kept}
 use Rattle.session.specs.declared.states.Ready.{Ready}
 use Rattle.session.specs.declared.states.Waiting.{Waiting}
 
+-- what a session keeps, as the session of the scheme that it is
 abbrev pub kept_session : Kept → Session
 kept_session k = record {
   count = k.count;
