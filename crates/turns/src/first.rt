@@ -1,6 +1,7 @@
 // A session's first lookup, from its opening to the entry, proved from what each call promises and from nothing else.
-ghost use Rattle.std.specs.Prelude.{◌≡◌, ℕ, ◌<◌, IfOk, OnOk};
-ghost use Rattle.scheme.specs.Answers.{sheet_of};
+ghost use Rattle.std.specs.Prelude.{◌≡◌, ℕ, ◌<◌, Some, None, Ok, MatchResult};
+ghost use Rattle.scheme.specs.Sessions.{unless};
+ghost use Rattle.turns.specs.First.{four_rows, first_handed, host_fault, asked_sheet, both_fault, both_asked, first_fault, first_left, first_reading};
 
 use family::Family;
 use faults::Fault;
@@ -15,7 +16,10 @@ fn ask<F: Family, H: Host>(
     query: &[u8],
     sheet: &mut [u8],
 ) -> Result<(), Fault>
-    ensures { OnOk result (sheet.new ≡ sheet_of (F.Family.vectors family.now) (H.Host.holding host.now).table query.now) }
+    ensures fault { MatchResult result
+        (λ _. host_fault (F.Family.vectors family.now) (H.Host.holding host.now) query.now sheet.old ≡ None)
+        (λ e. host_fault (F.Family.vectors family.now) (H.Host.holding host.now) query.now sheet.old ≡ Some e) }
+    ensures sheet { sheet.new ≡ asked_sheet (F.Family.vectors family.now) (H.Host.holding host.now) query.now sheet.old }
 {
     sheet.fill(0);
     host.answer(family, query, sheet)
@@ -32,16 +36,23 @@ fn ask_both<F: Family, A: Host, B: Host>(
     one: &mut [u8],
     two: &mut [u8],
 ) -> Result<(), Fault>
-    ensures first { OnOk result (one.new ≡ sheet_of (F.Family.vectors family.now) (A.Host.holding first_host.now).table first.now) }
-    ensures second { OnOk result (two.new ≡ sheet_of (F.Family.vectors family.now) (B.Host.holding second_host.now).table second.now) }
+    ensures fault { MatchResult result
+        (λ _. both_fault (F.Family.vectors family.now) (A.Host.holding first_host.now) (B.Host.holding second_host.now)
+        (four_rows first.now second.now one.old two.old) ≡ None)
+        (λ e. both_fault (F.Family.vectors family.now) (A.Host.holding first_host.now) (B.Host.holding second_host.now)
+        (four_rows first.now second.now one.old two.old) ≡ Some e) }
+    ensures sheets { four_rows first.now second.now one.new two.new
+        ≡ both_asked (F.Family.vectors family.now) (A.Host.holding first_host.now) (B.Host.holding second_host.now)
+        (four_rows first.now second.now one.old two.old) }
 {
     ask(first_host, family, first, one)?;
     ask(second_host, family, second, two)
 }
 
-// Opens a session, requests the entry at a position, has two hosts answer into zeroed sheets, and recovers. Where the hosts'
-// tables agree, what is read is their entry. So calls that a program makes are the runs of which the law speaks, and the law, as
-// `open` promises it, gives the entry. Its parameters are what such a program has at hand, and each goes to another call.
+// Opens a session, requests the entry at a position, has two hosts answer into zeroed sheets, and recovers. It stops at the first
+// refusal, and what was written before it stays written. Where the hosts' tables agree, what is read is their entry. So calls that a
+// program makes are the runs of which the law speaks, and the law, as `open` promises it, gives the entry. Its parameters are what
+// such a program has at hand, and each goes to another call.
 pub fn first_lookup<F: Family, A: Host, B: Host>(
     family: &F,
     first_host: &A,
@@ -53,9 +64,16 @@ pub fn first_lookup<F: Family, A: Host, B: Host>(
     one: &mut [u8],
     two: &mut [u8],
 ) -> Result<u8, Fault>
-    ensures { ((i : ℕ) → i < (F.Family.vectors family.now).count →
-        (A.Host.holding first_host.now).table i ≡ (B.Host.holding second_host.now).table i) →
-        IfOk result (λ e. e ≡ (A.Host.holding first_host.now).table position) }
+    ensures gives { let h = first_handed (F.Family.vectors family.now) (A.Host.holding first_host.now) (B.Host.holding second_host.now)
+        tape.items position (four_rows first.old second.old one.old two.old) in
+        result ≡ unless (first_fault h) (first_reading h) }
+    ensures leaves { let h = first_handed (F.Family.vectors family.now) (A.Host.holding first_host.now) (B.Host.holding second_host.now)
+        tape.items position (four_rows first.old second.old one.old two.old) in
+        four_rows first.new second.new one.new two.new ≡ first_left h }
+    ensures entry { let h = first_handed (F.Family.vectors family.now) (A.Host.holding first_host.now) (B.Host.holding second_host.now)
+        tape.items position (four_rows first.old second.old one.old two.old) in
+        ((i : ℕ) → i < h.family.count → h.first_host.table i ≡ h.second_host.table i) →
+        result ≡ unless (first_fault h) (Ok (h.first_host.table h.position)) }
 {
     let ready = Ready::open(family, tape)?;
     let waiting = ready.request(family, position, first, second)?;
