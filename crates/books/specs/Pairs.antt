@@ -33,7 +33,7 @@ bad_pair f = cond (bad_position f == f.count) None (Some (bad_position f, bad_pa
 abbrev pub pairs_fault : Vectors → Option Fault
 pairs_fault f = option_map (λ p. unmatched_fault p.0 p.1) (bad_pair f)
 
--- how many pairs are tried of so many positions, up to the first bad pair
+-- how many pairs are tried of so many positions, up to the first bad pair: n for each i before its own, and in its own row those up to j
 abbrev pub tried : ℕ → Option (ℕ × ℕ) → ℕ
 tried n None = n * n
 tried n (Some p) = p.0 * n + p.1 + 1

@@ -5,8 +5,8 @@ ghost use Rattle.std.specs.Prelude.{◌≡◌, false, is_some};
 ghost use Rattle.books.specs.Books.{book_fault};
 ghost use Rattle.books.specs.Numbers.{count_of, dimension_of};
 
+use crate::book_rows::BookRows;
 use crate::report::examine;
-use crate::rows::Rows;
 use faults::Fault;
 
 // A book: a family as bytes. Its dimension stands in 2 bytes; then come two sections, the vectors u and the vectors v,
@@ -48,12 +48,12 @@ impl TryFrom<Vec<u8>> for Book {
 
 impl Book {
     // Its vectors, as rows of its bytes.
-    fn rows(&self) -> Rows<'_>
+    fn rows(&self) -> BookRows<'_>
         ensures bytes { result.bytes.now ≡ self.now.bytes.items }
         ensures count { result.count ≡ self.now.count }
         ensures dimension { result.dimension ≡ self.now.dimension }
     {
-        Rows {
+        BookRows {
             bytes: self.bytes.as_slice(),
             count: self.count,
             dimension: self.dimension,

@@ -3,10 +3,10 @@
 #![tactic(auto)]
 
 pub mod book;
+mod book_rows;
 mod pairs;
 mod reader;
 pub mod report;
-mod rows;
 
 pub use book::Book;
 pub use report::{Report, examine};

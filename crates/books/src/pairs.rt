@@ -5,7 +5,7 @@ ghost use Rattle.books.specs.BookVectors.{book_vectors};
 ghost use Rattle.books.specs.Numbers.{count_of};
 ghost use Rattle.books.specs.Pairs.{fits, bad_partner, bad_pair};
 
-use crate::rows::Rows;
+use crate::book_rows::BookRows;
 
 // Whether the matching rule allows a product at positions i and j.
 fn is_allowed(i: usize, j: usize, product: u8) -> bool
@@ -18,7 +18,7 @@ fn is_allowed(i: usize, j: usize, product: u8) -> bool
     }
 }
 
-impl Rows<'_> {
+impl BookRows<'_> {
     // Whether positions i and j keep the matching rule.
     fn fits(&self, i: usize, j: usize) -> bool
         ensures { result ≡ fits (book_vectors self.now.bytes.now) i j }

@@ -7,8 +7,8 @@ ghost use Rattle.books.specs.Layout.{layout_fault};
 ghost use Rattle.books.specs.Numbers.{count_of};
 ghost use Rattle.books.specs.Pairs.{bad_pair, pairs_fault, tried};
 
+use crate::book_rows::BookRows;
 use crate::reader::Reader;
-use crate::rows::Rows;
 use digits::check_limits;
 use faults::{Fault, Layer};
 
@@ -34,7 +34,7 @@ pub struct Report {
 impl Report {
     // Reads the layout, and tells the dimension and the count on the way.
     #[tactic(auto, unfolding(crate::specs::Layout::layout_fault))]
-    fn read_layout<'a>(&mut self, bytes: &'a [u8]) -> Result<Rows<'a>, Fault>
+    fn read_layout<'a>(&mut self, bytes: &'a [u8]) -> Result<BookRows<'a>, Fault>
         requires dimension_open { self.old.dimension ≡ None }
         requires positions_open { self.old.positions ≡ None }
         ensures dimension { self.new.dimension ≡ told_dimension bytes.now }
@@ -51,7 +51,7 @@ impl Report {
         check_limits(Layer::Family, 1, MOST_POSITIONS, count)?;
         self.positions = Some(count);
         reader.sections(count, dimension)?;
-        Ok(Rows {
+        Ok(BookRows {
             bytes,
             count,
             dimension,
@@ -60,7 +60,7 @@ impl Report {
 
     // Tries the pairs, and tells how many up to the first bad one.
     #[tactic(auto, using(crate::proofs::Room::room))]
-    fn try_pairs(&mut self, rows: &Rows) -> Result<(), Fault>
+    fn try_pairs(&mut self, rows: &BookRows) -> Result<(), Fault>
         ensures pairs { self.new.pairs ≡ Some (tried (count_of rows.now.bytes.now) (bad_pair (book_vectors rows.now.bytes.now))) }
         ensures fault { result_err result ≡ pairs_fault (book_vectors rows.now.bytes.now) }
         ensures dimension { self.new.dimension ≡ self.old.dimension }

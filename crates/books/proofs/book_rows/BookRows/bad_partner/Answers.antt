@@ -4,7 +4,7 @@ use Rattle.books.specs.BookVectors.{book_vectors}
 use Rattle.books.specs.Numbers.{count_of}
 use Rattle.books.specs.Pairs.{fits, bad_partner}
 use Rattle.books.proofs.Finding.{found_first}
-use Rattle.books.proofs.rows.Rows.bad_partner.Goals as goal
+use Rattle.books.proofs.book_rows.BookRows.bad_partner.Goals as goal
 
 pub returns : goal.returns
 unfolding bad_partner

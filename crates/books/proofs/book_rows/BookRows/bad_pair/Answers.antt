@@ -3,7 +3,7 @@ use Rattle.books.specs.BookVectors.{book_vectors}
 use Rattle.books.specs.Pairs.{bad_partner, bad_pair}
 use Rattle.books.proofs.Finding.{first_mapped}
 use Rattle.books.proofs.Pairing.{BadAt, pair_found, pair_below}
-use Rattle.books.proofs.rows.Rows.bad_pair.Goals as goal
+use Rattle.books.proofs.book_rows.BookRows.bad_pair.Goals as goal
 
 pub returns : goal.returns
 returns c =

@@ -17,9 +17,9 @@ const COUNT_LEN: usize = 4;
 // Where the digits of the first section begin.
 const FIRST_START: usize = DIMENSION_LEN + COUNT_LEN;
 
-// A book's bytes, with the numbers that they begin with.
+// A book's bytes, with the numbers that they begin with: all that its vectors are found by.
 #[derive(Clone, Copy)]
-pub(crate) struct Rows<'a> {
+pub(crate) struct BookRows<'a> {
     pub(crate) bytes: &'a [u8],
     pub(crate) count: usize,
     pub(crate) dimension: usize,
@@ -28,7 +28,7 @@ pub(crate) struct Rows<'a> {
     ghost wide: { dimension ≡ dimension_of bytes.now },
 }
 
-impl<'a> Rows<'a> {
+impl<'a> BookRows<'a> {
     // The vector at a position, in the section whose digits begin at a place; past the last position it is empty.
     fn row(&self, start: usize, i: usize) -> &'a [u8]
         requires { start + self.now.count * self.now.dimension ≤ length self.now.bytes.now }

@@ -1,7 +1,7 @@
 use Rattle.std.proofs.Common.{ap, ◌∙◌}
 use Rattle.family.specs.Vectors.{allowed}
 use Rattle.books.proofs.Products.{fits_by_row}
-use Rattle.books.proofs.rows.Rows.fits.Goals as goal
+use Rattle.books.proofs.book_rows.BookRows.fits.Goals as goal
 
 pub returns : goal.returns
 returns c =
