@@ -12,17 +12,17 @@ never_0 : (cause : Cause) → number_of cause ≡ 0 → ⊥
 never_0 cause e = grind arith
 
 -- what a call promises where its status is 0
-pub taken : (P : Type 0) (Q : Fault → Type 0) (outcome : Result (Unit {0}) Fault) (status : ℕ) →
+pub where_taken : (P : Type 0) (Q : Fault → Type 0) (outcome : Result (Unit {0}) Fault) (status : ℕ) →
     MatchResult outcome (λ _. P) Q → MatchResult outcome (λ _. status ≡ 0) (λ e. status ≡ number_of e.cause) → status ≡ 0 → P
-taken P Q (Ok u) status promise tells zero = promise
-taken P Q (Err e) status promise tells zero = absurd (never_0 e.cause (sym tells ∙ zero))
+where_taken P Q (Ok u) status promise tells zero = promise
+where_taken P Q (Err e) status promise tells zero = absurd (never_0 e.cause (sym tells ∙ zero))
 
 -- and where it is another number
-pub refused : (P : Type 0) (Q : Fault → Type 0) (outcome : Result (Unit {0}) Fault) (status n : ℕ) → (n ≡ 0 → ⊥) →
+pub where_refused : (P : Type 0) (Q : Fault → Type 0) (outcome : Result (Unit {0}) Fault) (status n : ℕ) → (n ≡ 0 → ⊥) →
     MatchResult outcome (λ _. P) Q → MatchResult outcome (λ _. status ≡ 0) (λ e. status ≡ number_of e.cause) → status ≡ n →
     (e : Fault) × (number_of e.cause ≡ n) × Q e
-refused P Q (Ok u) status n some promise tells is = absurd (some (sym is ∙ tells))
-refused P Q (Err e) status n some promise tells is = (e, sym tells ∙ is, promise)
+where_refused P Q (Ok u) status n some promise tells is = absurd (some (sym is ∙ tells))
+where_refused P Q (Err e) status n some promise tells is = (e, sym tells ∙ is, promise)
 
 -- a check that never finds sheets at odds
 abbrev pub Other : Option Fault → Type 0

@@ -1,4 +1,4 @@
-// The calls from C: a request, a host's answer and a recovery, each on rows alone. A program in C hands
+// The calls from C, for a pump's bootloader: a request, a host's answer and a recovery, each on rows alone. A program in C hands
 // over numbers and rows one by one: so each call takes a list of them, and so does what is behind it. Each returns its
 // status as a number, since a program in C takes no `Result`.
 
