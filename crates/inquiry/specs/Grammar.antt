@@ -64,6 +64,10 @@ unfoldable pub inquiry_in : List (List ℕ) → Option Parts
 inquiry_in (first ∷ second ∷ third ∷ fourth ∷ end) = cond (is_end end) (parts_of first second third fourth) None
 inquiry_in _ = None
 
--- what an input of at most 8,192 bytes says, or none where it has another form
+-- the most bytes that an input may have
+abbrev pub most_bytes : ℕ
+most_bytes = 8192
+
+-- what an input says, or none where it has another form or too many bytes
 unfoldable pub inquiry_of : List ℕ → Option Parts
-inquiry_of input = cond (nat_le (length input) 8192) (inquiry_in (parts_at 10 input)) None
+inquiry_of input = cond (nat_le (length input) most_bytes) (inquiry_in (parts_at 10 input)) None

@@ -19,7 +19,7 @@ use Rattle.inquiry.specs.Text.{Findings, findings_text, refusal_text}
 abbrev pub family_of : Parts → Vectors
 family_of p = word_vectors p.letters p.alphabet
 
--- A round with one host as both. Rows are overwritten by it: here they are fresh, of the lengths that it takes.
+-- fresh rows of the lengths that a round takes, which overwrites them
 abbrev pub fresh_rows : ℕ → Contents
 fresh_rows k = record {
   first_query = replicate k 0;
@@ -28,6 +28,7 @@ fresh_rows k = record {
   second_sheet = replicate (sheet_size k) 0;
 }
 
+-- a round with one host as both
 abbrev pub round_with : Session → Vectors → Holding → ℕ → Round
 round_with session family host position = record {
   session = session;

@@ -1,6 +1,6 @@
 // The reply to an input: what a program prints.
-ghost use Rattle.std.specs.Prelude.{◌≡◌, ℕ, List, take, Some, IfOk, IfSome, MatchResult, string_bytes};
-ghost use Rattle.inquiry.specs.Grammar.{inquiry_of};
+ghost use Rattle.std.specs.Prelude.{◌≡◌, ℕ, ◌+◌, List, take, Some, IfOk, IfSome, MatchResult, string_bytes};
+ghost use Rattle.inquiry.specs.Grammar.{most_bytes, inquiry_of};
 ghost use Rattle.inquiry.specs.Replies.{reply, reply_by};
 ghost use Rattle.inquiry.specs.Stops.{stop_text};
 
@@ -46,6 +46,7 @@ pub fn reply(heap: Global, input: &[u8]) -> Result<String, AllocError>
 // How many bytes of an input are enough to know what it says, and so to reply to it: one more than an inquiry may have, since any
 // longer input is refused.
 pub fn bytes_enough() -> u64
+    ensures count { result ≡ most_bytes + 1 }
     ensures says { (input : List ℕ) → inquiry_of (take result input) ≡ inquiry_of input }
     ensures replied { (input : List ℕ) → reply (take result input) ≡ reply input }
 {

@@ -13,7 +13,6 @@ pub mod telling;
 pub mod text;
 
 pub use answering::{FORM, bytes_enough, reply, reply_with};
-pub use digits::Spaced;
 pub use found::Found;
 pub use inquiry::Inquiry;
 pub use stop::Stop;

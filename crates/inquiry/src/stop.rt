@@ -4,8 +4,8 @@ ghost use Rattle.std.specs.Prelude.{◌≡◌, alloc_error};
 use faults::Fault;
 use std::alloc::{AllocError, AllocFailed};
 
-// The input has another form than an inquiry, a call refused, or memory ran out. (The test benches have a `Stop` of their own: a line of
-// theirs is no inquiry, and can be unclear.)
+// The input has another form than an inquiry, a call refused, or memory ran out. (The test benches have `Unanswered` for this: a
+// line of theirs is no inquiry, and can be unclear.)
 #[derive(Clone, Copy)]
 pub enum Stop {
     Form,

@@ -13,6 +13,7 @@ use std::fmt::Display;
 
 // What can be found for an inquiry, and tells its round in its own way.
 pub trait Tells: Display + Drop {
+    // the text that tells a round
     ghost tells: { Round → List ℕ };
 
     // Finds it. The first call that refuses decides.

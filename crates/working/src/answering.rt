@@ -1,5 +1,6 @@
 // The key to an input: what the program prints.
-ghost use Rattle.std.specs.Prelude.{◌≡◌, ℕ, List, take, IfOk, string_bytes};
+ghost use Rattle.std.specs.Prelude.{◌≡◌, ℕ, ◌+◌, List, take, IfOk, string_bytes};
+ghost use Rattle.inquiry.specs.Grammar.{most_bytes};
 ghost use Rattle.working.specs.Keys.{key, worked_text};
 
 use crate::work::{Work, work_out};
@@ -26,7 +27,8 @@ pub fn key(heap: Global, input: &[u8]) -> Result<String, AllocError>
 // How many bytes of an input are enough to print its key.
 #[tactic(auto, unfolding(crate::specs::Keys::key))]
 pub fn bytes_enough() -> u64
-    ensures { (input : List ℕ) → key (take result input) ≡ key input }
+    ensures count { result ≡ most_bytes + 1 }
+    ensures replied { (input : List ℕ) → key (take result input) ≡ key input }
 {
     inquiry::bytes_enough()
 }
