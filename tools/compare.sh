@@ -3,6 +3,7 @@
 #
 #     tools/compare.sh                       builds what it needs, and compares
 #     tools/compare.sh --seed N --times N    the same with other inputs, and with more of them
+#     tools/compare.sh --part NAME --seed N --case N    one case alone, as a difference that is told names it
 #     tools/compare.sh --built               takes the programs that the gate has just built (it must be the first word)
 set -euo pipefail
 cd "$(dirname "$0")/.."

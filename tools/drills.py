@@ -2,7 +2,7 @@
 """Writes the input of the program `drills` and the output that it must print.
 
 It works everything out anew, digit by digit, and shares no code with the engine: the rules are in `lookups.py`, what is
-printed in `bench.py`, and the cases here. Run it in the repository's folder:
+printed in `drill_bench.py`, and the cases here. Run it in the repository's folder:
 
     tools/drills.py            writes crates/drills/stdin and crates/drills/stdout
     tools/drills.py --seed N   the same cases with other random rows
@@ -18,7 +18,7 @@ from pathlib import Path
 
 sys.dont_write_bytecode = True  # no folder of compiled files beside the tools
 
-from bench import Bench, family
+from drill_bench import Bench, family
 from lookups import Session, dense, looked_up, whole_round
 from trials import Refused, book_of, dot, flat_book, hexed, keep, some_row
 
@@ -104,7 +104,7 @@ def make_hosts(rng, bench):
         bench.ask("host", text)
     for n in (0, 1, 2, 1048575, 1048576, 1048577, 2**32, 2**64 - 1):
         bench.ask("host", f"c:{n}")
-    for text in ("c:2:2=0", "c:2:1=6", "c:2:2=6", "c:0:0=0", "c:2:0=1,1=5,0=2"):
+    for text in ("c:2:2=0", "c:2:1=6", "c:2:2=6", "c:0:0=0", "c:2:0=1,1=5,0=2", "c:2:1", "c:2:0=1,1", "c:2:2"):
         bench.ask("host", text)
     for one, two in product(("d:01", "d:0102", "c:1", "c:2:1=5", "r:2:00"), repeat=2):
         bench.ask("host", f"{one}+{two}")
@@ -112,6 +112,7 @@ def make_hosts(rng, bench):
         "d:00+d:00+d:0000", "d:00+d:0000+d:00", "d:0000+d:00+d:00", "c:3+c:3+c:3", "c:1+c:2+c:3",
         "d:00+c:1+d:05+c:1:0=3", "d:00+c:1+d:0505+c:1", "d:00+c:2+d:05+c:1", "d:00+c:1+c:2+d:0000", "c:1+c:2+c:3+c:4",
         "c:1048576+r:1048576:01", "c:1048576+c:1048575", "d:+d:06", "d:06+d:", "d:0000+d:06", "c:1+c:2+c:0",
+        "d:06+c:0", "c:0+d:06", "c:2:2=0+d:06",
     ):
         bench.ask("host", text)
 
@@ -315,6 +316,22 @@ def rounds(rng, bench):
         hosts = [host_of(rng, rng.choice(SHAPES), some_row(rng, 2)) for _ in range(2)]
         came = bench.ask("round", rng.randrange(2), 3, 3, 24, 24, *hosts)
         seen["found out" if "at odds" in came else "not found out"] += 1
+
+
+def unmade(rng, bench):
+    """Two hosts of which one cannot be made, or neither: the first is made whole before the second is looked at."""
+    hosts = ("c:2", "d:0006", "c:0", "c:2:1", "c:1+c:2", "x:00")
+    pairs = [pair for pair in product(hosts, repeat=2) if pair != ("c:2", "c:2")]
+    open_again(rng, bench, "words 1 2", 3)
+    for pair in pairs:
+        bench.ask("check 0 3 3 24 24", *pair)
+        bench.ask("round 0 3 3 24 24", *pair)
+    bench.ask("request 0 3 3")
+    for pair in pairs:
+        bench.ask("ask", *pair)
+    # the lookup still waits
+    bench.ask("counters")
+    bench.ask("abandon")
 
 
 def entries(rng, bench, texts):
@@ -586,6 +603,7 @@ def run(seed):
     long_session(rng, bench, 400)
     large(rng, bench)
     inquiries(rng, bench)
+    unmade(rng, bench)
     # it ends while a lookup waits
     open_again(rng, bench, "words 1 2", 3)
     bench.ask("request", 0, 3, 3)

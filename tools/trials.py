@@ -459,7 +459,7 @@ def recoveries(rng):
 
 def odd_lines():
     """Lines that ask for no case, and words that are no numbers, rows or elements."""
-    for line in ("", "element", "unit", "words 1", "recover 1 2 0 0 00", "Unit 3", "weigh 00"):
+    for line in ("", "element", "unit", "words 1", "recover 1 2 0 0 00", "Unit 3", "weigh 00", " unit 3", "unit\t3"):
         yield line, lambda: "no such trial"
     for line in ("unit 3 0 1", "words 1 2 0 1 2", "part 1 1 0 0"):
         yield line, lambda: "no such trial of a family"
@@ -467,14 +467,36 @@ def odd_lines():
         yield line, lambda: "no six numbers"
     for line in ("weighed", "weighed 000000000000", "weighed - - - - -"):
         yield line, lambda: "no four elements"
-    # a word that is no number is the largest there is
-    for word in ("x", "-1", "1x"):
+    # between two spaces, and after one at the end, there is an empty word
+    yield "unit 3 ", lambda: asked(unit(3), [2**64 - 1])
+    yield "six 0708  1", lambda: "no such trial"
+    # leading zeros and a plus may stand
+    for word in ("3", "003", "+3", "+003"):
+        yield f"unit {word}", lambda: asked(unit(3), [])
+        yield f"element 010203040500 {word} {word}", lambda: alone([1, 2, 3, 4, 5, 0], 3, 3)
+    # an amount or a shift above 255 counts as 255
+    for word in ("256", "1000", "18446744073709551616"):
+        yield f"element 010203040500 0 {word}", lambda: alone([1, 2, 3, 4, 5, 0], 0, 255)
+        yield f"unit 1 0 {word} 6 000000000000", lambda: asked(unit(1), [0, 255, 6, [0] * 6])
+        yield f"recover 1 2 0 {word} 07 -", lambda: recovered(words(1, 2), 0, 255, ([7], []))
+    # a word that is no number, or one too large, is the largest there is
+    for word in ("x", "-1", "1x", "+", "++3", "18446744073709551616", ""):
         yield f"unit {word}", lambda: str(size(2**64 - 1))
+    for word in ("x", "-1", "1x"):
         yield f"element 010203040500 0 {word}", lambda: alone([1, 2, 3, 4, 5, 0], 0, 255)
     # a letter that is no digit counts as 0, and a lone last one is dropped
     yield "draw 0g1f2 0000", lambda: drawn([0, 31], [0, 0])
     yield "draw fF -", lambda: drawn([240], [])
-    # elements that are none
+    # of a longer row the first six numbers are taken
+    for row in (range(7, 14), range(100, 112)):
+        yield f"modulo {hexed(row)}", lambda row=row: f"modulo{spaced(six_at(list(row), 0))}"
+    # a family that is none
+    for h, q in ((0, 2), (6, 2), (1, 1), (5, 17)):
+        yield f"recover {h} {q} 0 0 - -", lambda h=h, q=q: recovered(words(h, q), 0, 0, ([], []))
+    # elements that are none; of two, the first that is none is refused
+    for one, two in (([0], [6]), ([0, 1, 2, 3, 4, 5], [6] * 6), ([0] * 5 + [9], []), ([], [0] * 5 + [9]), ([0] * 6, [0] * 7)):
+        yield f"elements {hexed(one)} {hexed(two)}", lambda one=one, two=two: together(one, two)
+        yield f"write {hexed(one)} {hexed(two)}", lambda one=one, two=two: written(one, two)
     for row in ([], [0] * 5, [0, 0, 0, 0, 0, 6], [9, 0, 0, 0, 0, 0, 0]):
         yield f"entry {hexed(row)}", lambda row=row: told_entry(element(row))
         yield f"weighed {hexed([0] * 6)} {hexed(row)} {hexed([6] * 6)} -", lambda row=row: told_entry(element(row))

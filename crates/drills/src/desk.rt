@@ -1,7 +1,7 @@
 // The session of the drills, ready or waiting.
 use crate::shortened::Shortened;
 use family::UnitFamily;
-use notation::{Stop, number};
+use notation::{Unanswered, number};
 use session::{Counters, Ready, Waiting};
 use std::alloc::{AllocError, Global};
 use std::fmt;
@@ -41,7 +41,7 @@ pub(crate) enum Desk {
 }
 
 // A session after a drill, and what the drill came to.
-pub(crate) type Seen = (Desk, Result<String, Stop>);
+pub(crate) type Seen = (Desk, Result<String, Unanswered>);
 
 // Why all drills end early, with the session as it then is: it may hold a lookup that waits, which cannot be dropped, so it goes along with
 // the error, and `?` hands on both.
@@ -85,14 +85,14 @@ impl fmt::Display for Counted {
 }
 
 // What a ready session tells of itself.
-pub(crate) fn told(heap: Global, session: &Ready) -> Result<String, Stop> {
+pub(crate) fn told(heap: Global, session: &Ready) -> Result<String, Unanswered> {
     let counters = Counted(session.counters());
     let left = session.digits_left();
     Ok(format!(in heap; "{counters} left {left}")?)
 }
 
 // What one tells of itself of which a lookup waits. (A function of its own: it tells a position too.)
-pub(crate) fn told_waiting(heap: Global, waiting: &Waiting) -> Result<String, Stop> {
+pub(crate) fn told_waiting(heap: Global, waiting: &Waiting) -> Result<String, Unanswered> {
     let counters = Counted(waiting.counters());
     let left = waiting.digits_left();
     let position = waiting.position();

@@ -3,7 +3,7 @@ use crate::desk::{Desk, Ended};
 use crate::lines::{all_drilled, printed};
 use books::Book;
 use family::{Family, FirstPart, UnitFamily};
-use notation::{Stop, bytes_of, number};
+use notation::{Unanswered, bytes_of, number};
 use std::alloc::{AllocError, Global};
 use std::str::Lines;
 use words::Words;
@@ -33,30 +33,33 @@ fn chosen(rt: &HostRuntime, words: &[&str], lines: Lines<'_>, desk: Desk) -> Res
         ["first", l, "first", m, "words", h, q] => {
             with(rt, first(l, first(m, words_of(h, q))), lines, desk)
         }
-        _ => printed(rt, (desk, Err(Stop::Unclear("no such family")))),
+        _ => printed(rt, (desk, Err(Unanswered::Unclear("no such family")))),
     }
 }
 
-fn unit(n: &str) -> Result<UnitFamily, Stop> {
+fn unit(n: &str) -> Result<UnitFamily, Unanswered> {
     Ok(UnitFamily::new(number(n))?)
 }
 
-fn words_of(h: &str, q: &str) -> Result<Words, Stop> {
+fn words_of(h: &str, q: &str) -> Result<Words, Unanswered> {
     Ok(Words::new(number(h), number(q))?)
 }
 
-fn book(heap: Global, row: &str) -> Result<Book, Stop> {
+fn book(heap: Global, row: &str) -> Result<Book, Unanswered> {
     Ok(Book::try_from(bytes_of(heap, row)?)?)
 }
 
-fn first<F: Family + Drop>(m: &str, whole: Result<F, Stop>) -> Result<FirstPart<F>, Stop> {
+fn first<F: Family + Drop>(
+    m: &str,
+    whole: Result<F, Unanswered>,
+) -> Result<FirstPart<F>, Unanswered> {
     Ok(FirstPart::new(whole?, number(m))?)
 }
 
 // Prints the family's sizes and goes through the lines, or prints why there is no family, and passes the lines over.
 fn with<F: Family + Drop>(
     rt: &HostRuntime,
-    made: Result<F, Stop>,
+    made: Result<F, Unanswered>,
     lines: Lines<'_>,
     desk: Desk,
 ) -> Result<Desk, Ended> {
@@ -71,6 +74,6 @@ fn with<F: Family + Drop>(
 }
 
 // The count and the dimension. (As in `trials`: a line that a function for both would not shorten.)
-fn sizes<F: Family>(heap: Global, family: &F) -> Result<String, Stop> {
+fn sizes<F: Family>(heap: Global, family: &F) -> Result<String, Unanswered> {
     Ok(format!(in heap; "count {} dimension {}", family.count(), family.dimension())?)
 }

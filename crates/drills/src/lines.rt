@@ -5,7 +5,7 @@ use crate::tables::{answered, changed, dense, made};
 use crate::whole::{Given, check_whole, handed, whole_round};
 use family::Family;
 use inquiry::reply;
-use notation::{Stop, answer_of, bytes_of, number};
+use notation::{Unanswered, answer_of, bytes_of, number};
 use session::{Ready, Waiting};
 use std::alloc::Global;
 use std::str::Lines;
@@ -47,7 +47,7 @@ pub(crate) fn printed(rt: &HostRuntime, (desk, came): Seen) -> Result<Desk, Ende
     }
 }
 
-fn print_answer(rt: &HostRuntime, came: Result<String, Stop>) -> anyhow::Result<()> {
+fn print_answer(rt: &HostRuntime, came: Result<String, Unanswered>) -> anyhow::Result<()> {
     let answer = answer_of(rt.alloc(), came)?;
     println!(rt; "{answer}")?;
     Ok(())
@@ -80,7 +80,7 @@ fn asked<F: Family>(
     family: &F,
     session: &Ready,
     line: &str,
-) -> Result<ReadyTask, Stop> {
+) -> Result<ReadyTask, Unanswered> {
     let words: Vec<&str> = line.split(' ').collect(heap)?;
     Ok(match words.as_slice() {
         ["open", tape] => ReadyTask::Open(opened(heap, family, tape)?),
@@ -99,7 +99,7 @@ fn asked<F: Family>(
             ReadyTask::Round(handed(heap, [*t, *a, *b, *c, *d, *one, *two])?)
         }
         ["counters"] => ReadyTask::Text(told(heap, session)?),
-        ["recover" | "ask", _, _] | ["abandon"] => return Err(Stop::Unclear("out of turn")),
+        ["recover" | "ask", _, _] | ["abandon"] => return Err(Unanswered::Unclear("out of turn")),
         words => ReadyTask::Text(at_any_time(heap, family, words)?),
     })
 }
@@ -111,7 +111,7 @@ fn awaited<F: Family>(
     waiting: &Waiting,
     queries: &Pair,
     line: &str,
-) -> Result<WaitingTask, Stop> {
+) -> Result<WaitingTask, Unanswered> {
     let words: Vec<&str> = line.split(' ').collect(heap)?;
     Ok(match words.as_slice() {
         ["recover", one, two] => WaitingTask::Recover(sheets_of(heap, one, two)?),
@@ -121,25 +121,27 @@ fn awaited<F: Family>(
         ["open", _]
         | ["fits"]
         | ["check" | "request", _, _, _]
-        | ["check" | "round", _, _, _, _, _, _, _] => return Err(Stop::Unclear("out of turn")),
+        | ["check" | "round", _, _, _, _, _, _, _] => return Err(Unanswered::Unclear(
+            "out of turn",
+        )),
         words => WaitingTask::Text(at_any_time(heap, family, words)?),
     })
 }
 
 // The drills that need no session.
-fn at_any_time<F: Family>(heap: Global, family: &F, words: &[&str]) -> Result<String, Stop> {
+fn at_any_time<F: Family>(heap: Global, family: &F, words: &[&str]) -> Result<String, Unanswered> {
     match words {
         ["host", host] => made(heap, host),
         ["answer", host, query, sheet] => answered(heap, family, [*host, *query, *sheet]),
         ["dense", row, positions @ ..] => dense(heap, row, positions),
         ["change", count, tasks @ ..] => changed(heap, count, tasks),
         ["lookup", input] => looked_up(heap, input),
-        _ => Err(Stop::Unclear("no such drill")),
+        _ => Err(Unanswered::Unclear("no such drill")),
     }
 }
 
 // What the program `lookup` answers to some bytes, in one line: a slash stands for each line feed.
-fn looked_up(heap: Global, input: &str) -> Result<String, Stop> {
+fn looked_up(heap: Global, input: &str) -> Result<String, Unanswered> {
     let text = reply(heap, &bytes_of(heap, input)?)?;
     Ok(text.replace(heap, '\n', "/")?)
 }

@@ -4,18 +4,18 @@ use crate::parts::{host_of, parts_of};
 use family::Family;
 use faults::Fault;
 use host::Host;
-use notation::{Refusal, Stop, bytes_of, number};
+use notation::{RefusalLine, Unanswered, bytes_of, number};
 use scheme::sheet_size;
 use session::{Ready, Refused, Waiting};
 use std::alloc::Global;
 
 // A text that says that a call was taken.
-pub(crate) fn said(heap: Global, text: &str) -> Result<String, Stop> {
+pub(crate) fn said(heap: Global, text: &str) -> Result<String, Unanswered> {
     Ok(String::from_str(heap, text)?)
 }
 
 // A session on a tape.
-pub(crate) fn opened<F: Family>(heap: Global, family: &F, tape: &str) -> Result<Ready, Stop> {
+pub(crate) fn opened<F: Family>(heap: Global, family: &F, tape: &str) -> Result<Ready, Unanswered> {
     Ok(Ready::open(family, bytes_of(heap, tape)?)?)
 }
 
@@ -25,14 +25,18 @@ pub(crate) fn check<F: Family>(
     family: &F,
     session: &Ready,
     [t, first, second]: [&str; 3],
-) -> Result<String, Stop> {
+) -> Result<String, Unanswered> {
     let rows = Pair::unwritten(heap, first, second)?;
     session.check_request(family, number(t), &rows.first, &rows.second)?;
     said(heap, "would be taken")
 }
 
 // Whether a session takes the family.
-pub(crate) fn fits<F: Family>(heap: Global, family: &F, session: &Ready) -> Result<String, Stop> {
+pub(crate) fn fits<F: Family>(
+    heap: Global,
+    family: &F,
+    session: &Ready,
+) -> Result<String, Unanswered> {
     session.check_family(family)?;
     said(heap, "fits")
 }
@@ -54,12 +58,12 @@ pub(crate) fn request<F: Family>(
     }
 }
 
-fn taken(heap: Global, rows: &Pair) -> Result<String, Stop> {
+fn taken(heap: Global, rows: &Pair) -> Result<String, Unanswered> {
     Ok(format!(in heap; "taken queries{rows}")?)
 }
 
-fn declined(heap: Global, fault: Fault, rows: &Pair) -> Result<String, Stop> {
-    Ok(format!(in heap; "{} queries{rows}", Refusal(fault))?)
+fn declined(heap: Global, fault: Fault, rows: &Pair) -> Result<String, Unanswered> {
+    Ok(format!(in heap; "{} queries{rows}", RefusalLine(fault))?)
 }
 
 // A recovery from two sheets.
@@ -73,13 +77,13 @@ pub(crate) fn recover<F: Family>(
     (Desk::Ready(session), entry(heap, came))
 }
 
-fn entry(heap: Global, came: Result<u8, Fault>) -> Result<String, Stop> {
+fn entry(heap: Global, came: Result<u8, Fault>) -> Result<String, Unanswered> {
     let entry = came?;
     Ok(format!(in heap; "entry {entry}")?)
 }
 
 // Two rows as sheets.
-pub(crate) fn sheets_of(heap: Global, first: &str, second: &str) -> Result<Pair, Stop> {
+pub(crate) fn sheets_of(heap: Global, first: &str, second: &str) -> Result<Pair, Unanswered> {
     Ok(Pair {
         first: bytes_of(heap, first)?,
         second: bytes_of(heap, second)?,
@@ -92,7 +96,7 @@ pub(crate) fn sheets_by<F: Family>(
     family: &F,
     queries: &Pair,
     [one, two]: [&str; 2],
-) -> Result<Pair, Stop> {
+) -> Result<Pair, Unanswered> {
     let (one, two) = (parts_of(heap, one)?, parts_of(heap, two)?);
     let (one, two) = (host_of(&one)?, host_of(&two)?);
     let size = sheet_size(family);

@@ -3,11 +3,11 @@ use crate::parts::{host_of, parts_of, set};
 use crate::shortened::Shortened;
 use family::Family;
 use host::{Change, ChangeHost, Dense, Host};
-use notation::{Refusal, Stop, answer_of, bytes_of, number};
+use notation::{RefusalLine, Unanswered, answer_of, bytes_of, number};
 use std::alloc::{AllocError, Global};
 
 // Whether a host is made.
-pub(crate) fn made(heap: Global, host: &str) -> Result<String, Stop> {
+pub(crate) fn made(heap: Global, host: &str) -> Result<String, Unanswered> {
     let parts = parts_of(heap, host)?;
     let host = host_of(&parts)?;
     Ok(format!(in heap; "count {}", host.count())?)
@@ -19,18 +19,18 @@ pub(crate) fn answered<F: Family>(
     heap: Global,
     family: &F,
     [host, query, sheet]: [&str; 3],
-) -> Result<String, Stop> {
+) -> Result<String, Unanswered> {
     let parts = parts_of(heap, host)?;
     let host = host_of(&parts)?;
     let mut sheet = bytes_of(heap, sheet)?;
     match host.answer(family, &bytes_of(heap, query)?, &mut sheet) {
         Ok(_) => Ok(format!(in heap; "sheet{}", Shortened(&sheet))?),
-        Err(fault) => Ok(format!(in heap; "{} sheet{}", Refusal(fault), Shortened(&sheet))?),
+        Err(fault) => Ok(format!(in heap; "{} sheet{}", RefusalLine(fault), Shortened(&sheet))?),
     }
 }
 
 // The entries that a dense host tells at some positions.
-pub(crate) fn dense(heap: Global, row: &str, positions: &[&str]) -> Result<String, Stop> {
+pub(crate) fn dense(heap: Global, row: &str, positions: &[&str]) -> Result<String, Unanswered> {
     let row = bytes_of(heap, row)?;
     let host = Dense::new(&row)?;
     let mut text = format!(in heap; "count {}", host.count())?;
@@ -41,7 +41,7 @@ pub(crate) fn dense(heap: Global, row: &str, positions: &[&str]) -> Result<Strin
 }
 
 // A change host that is given tasks, one after the other.
-pub(crate) fn changed(heap: Global, count: &str, tasks: &[&str]) -> Result<String, Stop> {
+pub(crate) fn changed(heap: Global, count: &str, tasks: &[&str]) -> Result<String, Unanswered> {
     let mut host = ChangeHost::new(number(count))?;
     let mut text = format!(in heap; "count {}", host.count())?;
     for task in tasks {
@@ -52,7 +52,7 @@ pub(crate) fn changed(heap: Global, count: &str, tasks: &[&str]) -> Result<Strin
 }
 
 // One task: listing all changes, setting one, or telling what a position has.
-fn tasked(heap: Global, host: &mut ChangeHost, task: &str) -> Result<String, Stop> {
+fn tasked(heap: Global, host: &mut ChangeHost, task: &str) -> Result<String, Unanswered> {
     if task == "all" {
         return Ok(listed(heap, host)?);
     }

@@ -5,7 +5,7 @@ use crate::lookups::said;
 use crate::parts::{Part, host_of, parts_of};
 use family::Family;
 use faults::Fault;
-use notation::{Refusal, Stop, number};
+use notation::{RefusalLine, Unanswered, number};
 use rounds::{Reading, Rows, check_round, round};
 use session::Ready;
 use std::alloc::Global;
@@ -22,7 +22,10 @@ pub(crate) struct Given {
 }
 
 // What the words of a line hand to a round: a position, four lengths and two hosts.
-pub(crate) fn handed(heap: Global, [t, a, b, c, d, one, two]: [&str; 7]) -> Result<Given, Stop> {
+pub(crate) fn handed(
+    heap: Global,
+    [t, a, b, c, d, one, two]: [&str; 7],
+) -> Result<Given, Unanswered> {
     Ok(Given {
         t: number(t),
         queries: Pair::unwritten(heap, a, b)?,
@@ -59,7 +62,7 @@ pub(crate) fn check_whole<F: Family>(
     family: &F,
     session: &Ready,
     given: Given,
-) -> Result<String, Stop> {
+) -> Result<String, Unanswered> {
     let Given {
         t,
         mut queries,
@@ -78,7 +81,7 @@ pub(crate) fn check_whole<F: Family>(
     said(heap, "would be taken")
 }
 
-fn hosts_of<'a>(one: &'a [Part], two: &'a [Part]) -> Result<(Any<'a>, Any<'a>), Stop> {
+fn hosts_of<'a>(one: &'a [Part], two: &'a [Part]) -> Result<(Any<'a>, Any<'a>), Unanswered> {
     Ok((host_of(one)?, host_of(two)?))
 }
 
@@ -111,13 +114,13 @@ fn told(
     queries: &Pair,
     sheets: &Pair,
     counted: Counted,
-) -> Result<String, Stop> {
+) -> Result<String, Unanswered> {
     match came {
         Ok(Reading { entry, carried }) => Ok(format!(in heap;
             "entry {entry} carried {carried} queries{queries} sheets{sheets} {counted}"
         )?),
         Err(fault) => {
-            let refusal = Refusal(fault);
+            let refusal = RefusalLine(fault);
             Ok(format!(in heap; "{refusal} queries{queries} sheets{sheets} {counted}")?)
         }
     }

@@ -5,11 +5,11 @@
 pub mod answer;
 pub mod bytes;
 pub mod numbers;
-pub mod refusal;
-pub mod stop;
+pub mod refusal_line;
+pub mod unanswered;
 
 pub use answer::answer_of;
 pub use bytes::bytes_of;
 pub use numbers::{Bounded, number};
-pub use refusal::Refusal;
-pub use stop::Stop;
+pub use refusal_line::RefusalLine;
+pub use unanswered::Unanswered;

@@ -12,11 +12,13 @@ use std::str::FromStr;
 pub trait Bounded: FromStr<Err = ParseIntError> + Drop {
     const MAX: Self;
 
+    // that number, as proofs name it
     ghost MAX: { Self };
 
     // the number that a word writes
     ghost written: { List ℕ → Self };
 
+    // what `parse` gives is that number, and the largest stands where it gives none
     ghost reads: { (word : List ℕ) (r : Result Self ParseIntError) → Self.from_str_gives word r → result_unwrap_or r MAX ≡ written word };
 }
 

@@ -2,16 +2,16 @@
 use crate::elements::{alone, cut, drawn, multiplied, reduced, together, written};
 use crate::families::ask;
 use crate::recoveries::{entry, recovered, weighed};
-use crate::reports::Told;
+use crate::reports::ReportLine;
 use books::{Book, examine};
 use family::{FirstPart, UnitFamily};
 use faults::Fault;
-use notation::{Stop, bytes_of, number};
+use notation::{Unanswered, bytes_of, number};
 use std::alloc::Global;
 use words::Words;
 
 // What the trial that a line asks for finds.
-pub(crate) fn tried(heap: Global, line: &str) -> Result<String, Stop> {
+pub(crate) fn tried(heap: Global, line: &str) -> Result<String, Unanswered> {
     let words: Vec<&str> = line.split(' ').collect(heap)?;
     let answer = match words.as_slice() {
         ["element", row, turn, scale] => alone(heap, row, turn, scale)?,
@@ -34,9 +34,9 @@ pub(crate) fn tried(heap: Global, line: &str) -> Result<String, Stop> {
             ask(heap, &FirstPart::new(whole, number(m))?, rest)?
         }
         ["part", m, n, rest @ ..] => ask(heap, &part(number(m), number(n))?, rest)?,
-        ["examine", bytes] => Told(examine(&bytes_of(heap, bytes)?)).to_string(heap)?,
+        ["examine", bytes] => ReportLine(examine(&bytes_of(heap, bytes)?)).to_string(heap)?,
         ["book", bytes, rest @ ..] => ask(heap, &Book::try_from(bytes_of(heap, bytes)?)?, rest)?,
-        _ => return Err(Stop::Unclear("no such trial")),
+        _ => return Err(Unanswered::Unclear("no such trial")),
     };
     Ok(answer)
 }

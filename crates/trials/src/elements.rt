@@ -1,7 +1,7 @@
 // Trials of elements, vectors of digits and tapes.
 use digits::{Element, Spaced, draw, vector_product};
 use faults::Fault;
-use notation::{Refusal, Stop, bytes_of, number};
+use notation::{RefusalLine, Unanswered, bytes_of, number};
 use std::alloc::{AllocError, Global};
 use std::fmt;
 
@@ -16,7 +16,7 @@ impl fmt::Display for Shown {
 }
 
 // The element that a word writes.
-pub(crate) fn element_of(heap: Global, word: &str) -> Result<Element, Stop> {
+pub(crate) fn element_of(heap: Global, word: &str) -> Result<Element, Unanswered> {
     Ok(Element::try_from(bytes_of(heap, word)?.as_slice())?)
 }
 
@@ -30,12 +30,12 @@ fn row_after(
     let row = Spaced(row);
     match came {
         Ok(_) => format!(in heap; "{name}{row}"),
-        Err(fault) => format!(in heap; "{} {name}{row}", Refusal(fault)),
+        Err(fault) => format!(in heap; "{} {name}{row}", RefusalLine(fault)),
     }
 }
 
 // An element written over a row of any length.
-pub(crate) fn written(heap: Global, row: &str, over: &str) -> Result<String, Stop> {
+pub(crate) fn written(heap: Global, row: &str, over: &str) -> Result<String, Unanswered> {
     let element = element_of(heap, row)?;
     let mut place = bytes_of(heap, over)?;
     let came = element.write(&mut place);
@@ -43,7 +43,12 @@ pub(crate) fn written(heap: Global, row: &str, over: &str) -> Result<String, Sto
 }
 
 // One element: read, turned and scaled.
-pub(crate) fn alone(heap: Global, row: &str, turn: &str, scale: &str) -> Result<String, Stop> {
+pub(crate) fn alone(
+    heap: Global,
+    row: &str,
+    turn: &str,
+    scale: &str,
+) -> Result<String, Unanswered> {
     let element = element_of(heap, row)?;
     let turn = number(turn);
     let same = Shown(element);
@@ -60,19 +65,19 @@ pub(crate) fn cut(heap: Global, row: &str, place: &str) -> Result<String, AllocE
 }
 
 // The element of six numbers; a row that is too short has none.
-pub(crate) fn reduced(heap: Global, row: &str) -> Result<String, Stop> {
+pub(crate) fn reduced(heap: Global, row: &str) -> Result<String, Unanswered> {
     let row = bytes_of(heap, row)?;
     match row.as_slice() {
         [a, b, c, d, e, f, ..] => {
             let element = Element::from([*a, *b, *c, *d, *e, *f]);
             Ok(format!(in heap; "modulo{}", Shown(element))?)
         }
-        _ => Err(Stop::Unclear("no six numbers")),
+        _ => Err(Unanswered::Unclear("no six numbers")),
     }
 }
 
 // Two elements: their sum, their product, and whether they are the same.
-pub(crate) fn together(heap: Global, one: &str, two: &str) -> Result<String, Stop> {
+pub(crate) fn together(heap: Global, one: &str, two: &str) -> Result<String, Unanswered> {
     let first = element_of(heap, one)?;
     let second = element_of(heap, two)?;
     let sum = Shown(first + second);
@@ -82,7 +87,7 @@ pub(crate) fn together(heap: Global, one: &str, two: &str) -> Result<String, Sto
 }
 
 // The product of two vectors.
-pub(crate) fn multiplied(heap: Global, one: &str, two: &str) -> Result<String, Stop> {
+pub(crate) fn multiplied(heap: Global, one: &str, two: &str) -> Result<String, Unanswered> {
     let product = vector_product(&bytes_of(heap, one)?, &bytes_of(heap, two)?)?;
     Ok(format!(in heap; "product {product}")?)
 }

@@ -1,11 +1,15 @@
 // Trials of a family: its sizes, the vectors of a position, and the product and the spreading of one with a row.
 use digits::Spaced;
 use family::Family;
-use notation::{Stop, bytes_of, number};
+use notation::{Unanswered, bytes_of, number};
 use std::alloc::{AllocError, Global};
 
 // What a line's last words ask of a family.
-pub(crate) fn ask<F: Family>(heap: Global, family: &F, words: &[&str]) -> Result<String, Stop> {
+pub(crate) fn ask<F: Family>(
+    heap: Global,
+    family: &F,
+    words: &[&str],
+) -> Result<String, Unanswered> {
     let answer = match words {
         [] => sizes(heap, family)?,
         [i] => vectors(heap, family, number(i))?,
@@ -17,7 +21,7 @@ pub(crate) fn ask<F: Family>(heap: Global, family: &F, words: &[&str]) -> Result
             number(e),
             bytes_of(heap, row)?,
         )?,
-        _ => return Err(Stop::Unclear("no such trial of a family")),
+        _ => return Err(Unanswered::Unclear("no such trial of a family")),
     };
     Ok(answer)
 }

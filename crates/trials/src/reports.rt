@@ -1,14 +1,14 @@
 // Trials of an examination: what a report on a book holds.
 use books::Report;
 use faults::Fault;
-use notation::Refusal;
+use notation::RefusalLine;
 use std::fmt;
 
 // A number that was found, or a dash.
 #[derive(Clone, Copy)]
-struct Found(Option<usize>);
+struct NumberFound(Option<usize>);
 
-impl fmt::Display for Found {
+impl fmt::Display for NumberFound {
     fn fmt<W: fmt::Write>(&self, f: &mut fmt::Formatter<W>) -> fmt::Result {
         match self.0 {
             Some(number) => write!(f, "{number}"),
@@ -25,20 +25,20 @@ impl fmt::Display for Verdict {
     fn fmt<W: fmt::Write>(&self, f: &mut fmt::Formatter<W>) -> fmt::Result {
         match self.0 {
             Ok(_) => f.write_str("accepted"),
-            Err(fault) => write!(f, "{}", Refusal(fault)),
+            Err(fault) => write!(f, "{}", RefusalLine(fault)),
         }
     }
 }
 
 // A report in one line.
 #[derive(Clone, Copy)]
-pub(crate) struct Told(pub(crate) Report);
+pub(crate) struct ReportLine(pub(crate) Report);
 
-impl fmt::Display for Told {
+impl fmt::Display for ReportLine {
     fn fmt<W: fmt::Write>(&self, f: &mut fmt::Formatter<W>) -> fmt::Result {
-        let dimension = Found(self.0.dimension);
-        let positions = Found(self.0.positions);
-        let pairs = Found(self.0.pairs);
+        let dimension = NumberFound(self.0.dimension);
+        let positions = NumberFound(self.0.positions);
+        let pairs = NumberFound(self.0.pairs);
         let verdict = Verdict(self.0.verdict);
         write!(
             f,

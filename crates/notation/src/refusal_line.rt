@@ -7,9 +7,9 @@ use std::fmt;
 
 // A refusal, with its layer.
 #[derive(Clone, Copy)]
-pub struct Refusal(pub Fault);
+pub struct RefusalLine(pub Fault);
 
-impl fmt::Display for Refusal {
+impl fmt::Display for RefusalLine {
     ghost output = { λ r. Some (refused_text r.0) };
 
     fn fmt<W: fmt::Write>(&self, f: &mut fmt::Formatter<W>) -> fmt::Result {
