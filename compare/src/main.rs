@@ -11,6 +11,7 @@ mod random;
 mod report;
 mod sizes;
 mod spread;
+mod streams;
 mod worked;
 
 use options::Options;
@@ -26,13 +27,14 @@ struct Part {
     missing: fn(&Tally) -> Vec<String>,
 }
 
-const PARTS: [Part; 7] = [
+const PARTS: [Part; 8] = [
     Part {
         name: worked::PART,
         programs: &["lookup", "key", "checkbook", "trials", "drills"],
         compare: worked::compare,
         missing: worked::missing,
     },
+    Part { name: streams::PART, programs: &["lookup", "key", "checkbook"], compare: streams::compare, missing: streams::missing },
     Part { name: calls::PART, programs: &[], compare: calls::compare, missing: calls::missing },
     Part { name: "lookup", programs: &["lookup"], compare: programs::lookup, missing: programs::missing_inquiries },
     Part { name: "key", programs: &["key"], compare: programs::key, missing: programs::missing_inquiries },

@@ -58,7 +58,7 @@ pub fn flawed(random: &mut Random, n: usize) -> String {
         1 => format!("d:{}", row(&random.digits(n + 2))),
         2 => bad_digit(random, table),
         3 => format!("c:{n}:{n}={}", random.digit()),
-        4 => format!("c:{n}:0={}", random.pick(&["6", "255", "x"])),
+        4 => format!("c:{n}:0{}", random.pick(&["=6", "=255", "=x", "=", ""])),
         5 => format!("c:{n}:0=1,0=2,{n}=6"),
         6 => format!("{}+d:{}", of_one(&table), row(&random.digits(n + 1))),
         7 => many_changes(random),
