@@ -4,6 +4,7 @@ ghost use Rattle.std.specs.List.{zip};
 ghost use Rattle.digits.specs.Rows.{at};
 ghost use Rattle.digits.specs.Sums.{product};
 ghost use Rattle.digits.specs.Refusals.{vectors_fault};
+ghost use Rattle.digits.specs.declared.product.TheConstants.{STRETCH};
 
 use crate::rows::{check_digits, check_length};
 use faults::Fault;
@@ -13,7 +14,7 @@ const STRETCH: usize = 4096;
 
 // The plain sum of the products along two rows, as far as both go, of which the first is no longer than a stretch.
 fn plain_sum(a: &[u8], b: &[u8]) -> u32
-    requires { length a.now ≤ 4096 }
+    requires { length a.now ≤ STRETCH }
     ensures { result ≡ sum_by (λ p. p.0 * p.1) (zip a.now b.now) }
 {
     a.iter()

@@ -1,11 +1,10 @@
 -- Spreading coordinate by coordinate comes to spreading over all of them.
-use Rattle.std.specs.Prelude.{◌≡◌, ℕ, ◌+◌, ◌*◌, ◌/◌, ◌%◌, ◌<◌, ◌≤◌, cond, not, ◌&&◌, List, length, ◌==◌, ◌≢◌, nat_lt, slice_set, refl}
+use Rattle.std.specs.Prelude.{◌≡◌, ℕ, ◌+◌, ◌*◌, ◌/◌, ◌%◌, ◌<◌, ◌≤◌, cond, List, length, ◌≢◌, nat_lt, slice_set, refl}
 use Rattle.std.proofs.Common.{sym, ap, ◌∙◌, inl, inr, arith}
 use Rattle.std.proofs.lemmas.List.FromFn.{fill_by_all}
 use Rattle.std.proofs.lemmas.List.{get_or-set_same, get_or-set_other}
 use Rattle.std.proofs.lemmas.Bool.{cases_eq, cases_lt, lt-ltb, le-ltb, eq-eqb, ne_eqb, cond-true, cond-false, and_left, and_right, and_from, not_from_true, not_from_false}
 use Rattle.digits.specs.Rows.{at}
-use Rattle.digits.proofs.RowLaws.{row_cong}
 use Rattle.family.specs.Spread.{spread_at, spread}
 
 -- what a row holds once the coordinates below c are spread over
@@ -100,13 +99,6 @@ skips_to u amount e c d xs ys le zeros passed x l =
             | inr k ↦ sym (cond-false _ _ _ (le-ltb (x / 6) d k))
           ]
     ]
-
--- what is spread depends on u's digits alone
-pub spread_cong : (u v : ℕ → ℕ) (amount e : ℕ) (xs : List ℕ) → ((c : ℕ) → u c ≡ v c) → spread u amount e xs ≡ spread v amount e xs
-unfolding spread
-spread_cong u v amount e xs h =
-    row_cong (length xs) (spread_at u amount e xs) (spread_at v amount e xs)
-    (λ x l. ap (λ d. cond (x % 6 == e % 6 && not (d == 0)) ((at xs x + amount * d) % 6) (at xs x)) (h (x / 6)))
 
 -- where u is 0 throughout, nothing is spread
 pub spread_nothing : (u : ℕ → ℕ) (amount e : ℕ) (xs : List ℕ) → ((c : ℕ) → u c ≡ 0) → xs ≡ spread u amount e xs

@@ -17,6 +17,7 @@ within n k digit i c = cond (nat_lt i n && nat_lt c k) (digit i c) 0
 abbrev pub pairing : Vectors → ℕ → ℕ → ℕ
 pairing f i j = product f.dim (f.u i) (f.v j)
 
+-- what the matching rule wants of the product at two positions that differ
 abbrev pub Apart : ℕ → Type 0
 Apart r = (r ≡ 1) ⊎ (r ≡ 3) ⊎ (r ≡ 4)
 

@@ -14,6 +14,7 @@ use digits::{Element, add_at};
 // vector family.) What is proved of code that takes any family is proved from this rule alone.
 // Telling refuses nothing and alters nothing; beyond the last position or coordinate both digits are 0.
 pub trait Family {
+    // what a family means: its count, its dimension, and the digits of its vectors
     ghost vectors: { Self → Vectors };
 
     // How many positions there are, from 1 to 1,048,576.
@@ -100,5 +101,6 @@ pub trait Family {
         e
     }
 
+    // the law that each kind is proved to keep: the limits of a family, its digits, and the matching rule
     ghost matching: { (f : Self) → MatchingFamily (vectors f) };
 }

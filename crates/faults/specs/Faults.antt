@@ -6,6 +6,7 @@ use Rattle.faults.specs.declared.Fault.{Fault}
 use Rattle.faults.specs.declared.Layer.{Layer}
 use Rattle.faults.specs.declared.Layer.TheVariants.{Element, Family, Host, Session}
 
+-- the number under which documents and programs know a cause
 abbrev pub number_of : Cause → ℕ
 number_of (Length found) = 1
 number_of (Digit place) = 2
@@ -17,6 +18,7 @@ number_of (Spent left) = 7
 number_of (AtOdds position) = 8
 number_of (Full held) = 9
 
+-- the word that goes with the number
 abbrev pub word_of : Cause → List ℕ
 word_of (Length found) = codes "length"
 word_of (Digit place) = codes "digit"

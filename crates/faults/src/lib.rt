@@ -11,9 +11,13 @@ pub mod display;
 // The part of the engine that a refusal speaks for.
 #[derive(Clone, Copy, PartialEq, Eq)]
 pub enum Layer {
+    // rows and their digits, whichever call they were handed to
     Element,
+    // making a family
     Family,
+    // making a host, changing it, and asking it
     Host,
+    // a session's calls, and those of a lookup from C
     Session,
 }
 
