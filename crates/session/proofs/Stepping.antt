@@ -3,23 +3,14 @@ use Rattle.std.proofs.Common.{◌≡◌, ℕ, ◌+◌, ◌%◌, List, length, dr
 use Rattle.std.proofs.lemmas.List.FromFn.{fill_by_all}
 use Rattle.faults.specs.declared.Fault.{Fault}
 use Rattle.digits.specs.Rows.{at, row}
-use Rattle.digits.specs.Refusals.{width_fault}
-use Rattle.digits.proofs.Passing.{or_else_none, width_is}
 use Rattle.family.specs.Vectors.{Vectors}
-use Rattle.scheme.proofs.Taken.{taken}
+use Rattle.scheme.proofs.Taken.{taken, widths}
 use Rattle.scheme.specs.Queries.{second_query, shift}
-use Rattle.scheme.specs.Sessions.{Session, digits_left, next_digits, family_fault, request_fault, outcome, after_request, after_recovery, after_loss}
+use Rattle.scheme.specs.Sessions.{Session, digits_left, next_digits, request_fault, outcome, after_request, after_recovery, after_loss}
 use Rattle.scheme.specs.Runs.{State, ready, waiting, request, recover, abandon, asked, recovered, abandoned, Step, takes, recovers, abandons}
 
--- the lengths of the rows of a request whose tests have passed
-pub widths : (n k left : ℕ) (f : Vectors) (t l m : ℕ) → request_fault n k left f t l m ≡ None → (l ≡ k) × (m ≡ k)
-widths n k left f t l m e =
-    let (family, rest) = or_else_none (family_fault n k f) _ e in
-    let (first, more) = or_else_none (width_fault k l) _ rest in
-    let (second, last) = or_else_none (width_fault k m) _ more in
-    (width_is k l first, width_is k m second)
-
--- what such a request writes: as many tape digits as a query has are the next ones, and displaced they are the second query
+-- what a request writes whose tests have passed: as many tape digits as a query has are the next ones, and displaced they are
+-- the second query
 pub asks_first : (s : Session) (f : Vectors) (t l m : ℕ) (z : List ℕ) → request_fault s.count s.dim (digits_left s) f t l m ≡ None →
     z ≡ next_digits s → row l (at z) ≡ next_digits s
 asks_first s f t l m z none is =

@@ -22,9 +22,12 @@ struct Kept {
     taken: usize,
     read: usize,
     unread: usize,
+    // all of the tape are digits
     ghost digits: { Digits tape.items },
+    // a request takes one digit at least, so no more are taken than the tape has digits
     ghost wide: { 1 ≤ dimension },
     ghost within: { place ≤ vec_len tape },
+    // each request that was taken has moved the place on by a query's digits, and nothing else has
     ghost stepped: { place ≡ taken * dimension },
 }
 

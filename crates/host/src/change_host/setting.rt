@@ -10,8 +10,8 @@ impl ChangeHost {
     ghost use Rattle.host.specs.Changes.{place_of, set_fault, told_after, held_after};
     ghost use Rattle.host.specs.ChangeHosts.{change_count, number_held, changes_held, told_by};
 
-    // The place of the change at a position, if one is held there. (`told` looks for the change itself: by its place it would have an
-    // index more to show within.)
+    // The place of the change at a position, if one is held there. (`told`, which only reads the change, looks for it without its place,
+    // and so has no index to show in range.)
     fn place(&self, position: usize) -> Option<usize>
         ensures first { result ≡ place_of (changes_held self.now) position }
         ensures within { IfSome result (λ i. i < number_held self.now) }
