@@ -42,14 +42,14 @@ by_distance : each_below (λ h. each_below (λ d. eqb (by_agreement h (h - d)) (
 unfolding binomial
 by_distance = refl
 
--- at most so many letters differ as there are
-agreed : (h q t t' : ℕ) → common h q t t' + distance h q t t' ≡ h
-agreed h q t t' = agree_or_differ (letter h q t) (letter h q t') (range_with_len 0 h) ∙ length-range_with_len 0 h
+-- so many letters are common, and so many differ, that together they are all
+common_or_differ : (h q t t' : ℕ) → common h q t t' + distance h q t t' ≡ h
+common_or_differ h q t t' = agree_or_differ (letter h q t) (letter h q t') (range_with_len 0 h) ∙ length-range_with_len 0 h
 
 pub squared : DistanceLaw
 squared h q t t' some short two few l l' =
     let d : ℕ = distance h q t t' in
-    let all = agreed h q t t' in
+    let all = common_or_differ h q t t' in
     pairing_agreement h q t t' (omega arith) l l'
     ∙ ap (by_agreement h) {x = common h q t t'} {y = h - d} (omega arith)
     ∙ eqb-true _ _
@@ -62,7 +62,7 @@ squares = refl
 five : (q t t' : ℕ) → 2 ≤ q → q ≤ 16 → t < q ^ 5 → t' < q ^ 5 →
     pairing (word_vectors 5 q) t t' ≡ get_or (0 ∷ 1 ∷ 4 ∷ 3 ∷ 4 ∷ 1 ∷ []) (distance 5 q t t') 0
 five q t t' some few l l' =
-    let all = agreed 5 q t t' in
+    let all = common_or_differ 5 q t t' in
     squared 5 q t t' (omega arith) (omega arith) some few l l'
     ∙ eqb-true _ _ (from_each (λ d. eqb (d * d % 6) (get_or (0 ∷ 1 ∷ 4 ∷ 3 ∷ 4 ∷ 1 ∷ []) d 0)) 6 squares (distance 5 q t t') (omega arith))
 

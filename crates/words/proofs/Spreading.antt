@@ -10,6 +10,12 @@ use Rattle.words.specs.Words.{word_dim, word_digit}
 use Rattle.words.specs.Matching.{digit_past_dim}
 use Rattle.words.proofs.Telling.{own_lt, own_rises, u_found, u_missing}
 
+-- Of a position that has these own coordinates, the coordinates below the next of them, after so many, are spread over.
+abbrev pub PassedOwn : List ℕ → ℕ → ℕ → ℕ → List ℕ → List ℕ → Type 0
+PassedOwn own k amount e before after =
+    (h q t : ℕ) → 0 < q → own ≡ own_or_none h q t →
+    Passed (word_digit h q (λ s. 1) t) amount e (get_or own k (word_dim h q)) before after
+
 module _ (h q t : ℕ) (pos : 0 < q) (own : List ℕ) (is : own ≡ own_or_none h q t) (amount e : ℕ) (xs : List ℕ) where
   -- the coordinate that is next after k of the own ones, or the dimension
   abbrev pub next : ℕ → ℕ

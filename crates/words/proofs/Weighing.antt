@@ -86,7 +86,7 @@ module _ (h q : ℕ) (weight word : ℕ → ℕ) where
             mark-within q weight word (choose 1 (range_with_len 0 h) ++ (choose 2 (range_with_len 0 h) ++ [])) 0 (choose 0 (range_with_len 0 h)) c (choose-sizes 0 (range_with_len 0 h)) (omega (arith, width_none))
             ∙ ap (λ s. mark q (λ s. 1) word (place_sets h) c * weight s) (sym (cond-true (ltb c 1) 0 _ (lt-ltb c 1 l)))
         | inr l ↦
-            ap (λ a. a) (past_none weight c l)
+            past_none weight c l
             ∙ elim (cases_lt (c - 1) (h * q)) [
               | inl m ↦
                   mark-within q weight word (choose 2 (range_with_len 0 h) ++ []) 1 (choose 1 (range_with_len 0 h)) (c - 1) (choose-sizes 1 (range_with_len 0 h)) (omega (arith, width_ones h q))

@@ -14,13 +14,13 @@ unfolding binomial
 all_fit = refl
 
 -- words of h letters that agree at m places are allowed their product, as if h and m were their positions
-agreed : (h m : ℕ) → h ≤ 5 → m ≤ h → Allowed m h (by_agreement h m)
-agreed h m short l =
+allowed_agreement : (h m : ℕ) → h ≤ 5 → m ≤ h → Allowed m h (by_agreement h m)
+allowed_agreement h m short l =
     allowed_from m h (by_agreement h m)
     (from_each (fits h) (h + 1) (from_each (λ h. each_below (fits h) (h + 1)) 6 all_fit h (omega arith)) m (omega arith))
 
 pub agree_wholly : (h : ℕ) → h ≤ 5 → by_agreement h h ≡ 0
-agree_wholly h short = (agreed h h short (omega arith)).0 refl
+agree_wholly h short = (allowed_agreement h h short (omega arith)).0 refl
 
 pub agree_partly : (h m : ℕ) → h ≤ 5 → m < h → Apart (by_agreement h m)
-agree_partly h m short l = (agreed h m short (omega arith)).1 (omega arith)
+agree_partly h m short l = (allowed_agreement h m short (omega arith)).1 (omega arith)
