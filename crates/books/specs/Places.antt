@@ -1,5 +1,5 @@
 -- Where the digits of a book's vectors stand, and the products of its rows.
-use Rattle.std.specs.Prelude.{◌≡◌, ℕ, ◌+◌, ◌*◌, ◌<◌, ◌≤◌, Bool, List, length, take, drop, refl}
+use Rattle.std.specs.Prelude.{◌≡◌, ℕ, ◌+◌, ◌*◌, ◌<◌, ◌≤◌, List, length, take, drop, refl}
 use Rattle.std.proofs.Common.{sym, ap, ◌∙◌, arith}
 use Rattle.std.proofs.lemmas.Nat.{row_fits}
 use Rattle.std.proofs.lemmas.List.{length-drop, length-take-le}
@@ -7,11 +7,10 @@ use Rattle.digits.specs.Rows.{at}
 use Rattle.digits.specs.Sums.{product}
 use Rattle.digits.proofs.Stretches.{at_stretch}
 use Rattle.digits.proofs.Sums.{product_cong}
-use Rattle.family.specs.Vectors.{pairing, allowed}
+use Rattle.family.specs.Vectors.{pairing}
 use Rattle.family.specs.Within.{within_in}
 use Rattle.books.specs.BookVectors.{digit_from, book_vectors}
 use Rattle.books.specs.Numbers.{dimension_of, count_of, second_of}
-use Rattle.books.specs.Pairs.{fits}
 use Rattle.books.specs.Ordered.{InOrder, long_as}
 
 -- below the count a vector ends within its section
@@ -39,6 +38,3 @@ module _ (bs : List ℕ) (start k i j : ℕ) (x y : List ℕ) (order : InOrder b
       ∙ product_cong (dimension_of bs) (at x) (at y) (digit_from 6 bs i) (digit_from (second_of bs) bs j)
       (λ c l. vector_digit bs 6 k i c x wide hi (omega arith) isx)
       (λ c l. vector_digit bs start k j c y wide hj (omega arith) isy ∙ ap (λ s. digit_from s bs j c) from)
-
-  pub fits_is : (d : ℕ) (r : Bool) → d ≡ product (length x) (at x) (at y) → r ≡ allowed i j d → r ≡ fits (book_vectors bs) i j
-  fits_is d r hd hr = hr ∙ ap (allowed i j) (hd ∙ pairing_is)

@@ -1,21 +1,19 @@
 -- An accepted book tells a matching family.
-use Rattle.std.specs.Prelude.{◌≡◌, ℕ, ◌+◌, ◌*◌, ◌<◌, ◌≤◌, false, cond, List, length, take, drop, is_some, None, nat_lt, refl}
+use Rattle.std.specs.Prelude.{◌≡◌, ℕ, ◌+◌, ◌*◌, ◌<◌, cond, List, length, take, drop, None, nat_lt, refl}
 use Rattle.std.proofs.Common.{inl, inr, sym, ap, ◌∙◌, add_assoc, arith}
 use Rattle.std.proofs.lemmas.Nat.{mul-add-lt}
-use Rattle.std.proofs.lemmas.List.{get_or_past}
 use Rattle.std.proofs.lemmas.Bool.{cases_lt, lt-ltb, le-ltb, cond-true, cond-false}
 use Rattle.digits.specs.Rows.{at, Digits}
 use Rattle.digits.specs.Sums.{product}
 use Rattle.digits.proofs.Stretches.{at_stretch}
 use Rattle.digits.proofs.Sums.{product_cong, product_none, product_zero}
 use Rattle.family.specs.Vectors.{MatchingFamily}
-use Rattle.family.specs.Within.{told-within, within_past_count, within_past_dim}
+use Rattle.family.specs.Within.{told-within, within_past_count}
 use Rattle.books.specs.BookVectors.{digit_from, book_vectors}
 use Rattle.books.specs.Books.{book_fault}
 use Rattle.books.specs.Numbers.{dimension_of, count_of, size_of, second_of}
-use Rattle.books.specs.Accepting.{accepted_none, only_families}
-use Rattle.books.specs.Ordered.{in_order, long_as}
-use Rattle.books.specs.Places.{vector_digit}
+use Rattle.books.specs.Accepting.{only_families}
+use Rattle.books.specs.Ordered.{in_order}
 
 -- a section of digits tells digits
 section_digit : (bs : List ℕ) (start : ℕ) → Digits (take (size_of bs) (drop start bs)) →
@@ -43,13 +41,6 @@ book_family bs e =
 
 -- a row that holds a vector, or is empty past the last position, has the vector's digits and its products
 module _ (bs : List ℕ) (start n k i : ℕ) (counted : n ≡ count_of bs) (wide : k ≡ dimension_of bs) (x : List ℕ) where
-  pub whole_vector : i < n → length x ≡ k → x ≡ take k (drop (start + i * k) bs) → (c : ℕ) → at x c ≡ digit_from start bs i c
-  whole_vector h long is c =
-      elim (cases_lt c k) [
-        | inl l ↦ vector_digit bs start k i c x wide (omega arith) l is
-        | inr past ↦ get_or_past x c 0 (omega arith) ∙ sym (within_past_dim (count_of bs) (dimension_of bs) (λ m d. at bs (start + m * dimension_of bs + d)) i c (omega arith))
-      ]
-
   pub vector_product : ((c : ℕ) → at x c ≡ digit_from start bs i c) → length x ≡ cond (nat_lt i n) k 0 → (y : ℕ → ℕ) →
       product (length x) (at x) y ≡ product (dimension_of bs) (digit_from start bs i) y
   vector_product digits long y =
@@ -61,10 +52,3 @@ module _ (bs : List ℕ) (start n k i : ℕ) (counted : n ≡ count_of bs) (wide
             ap (λ m. product m (at x) y) (long ∙ cond-false _ _ _ (le-ltb i n past)) ∙ product_none (at x) y
             ∙ sym (product_zero (dimension_of bs) (digit_from start bs i) y (λ c l. within_past_count (count_of bs) (dimension_of bs) (λ m d. at bs (start + m * dimension_of bs + d)) i c (omega arith)))
       ]
-
--- an accepted book's length and limits, by the numbers that the code holds
-pub book_room : (bs : List ℕ) (n k : ℕ) → is_some (book_fault bs) ≡ false → n ≡ count_of bs → k ≡ dimension_of bs →
-    (length bs ≡ 10 + n * k + n * k) × (n ≤ 1024) × (k ≤ 4096)
-book_room bs n k accepted counted wide =
-    let order = in_order bs (only_families bs (accepted_none bs accepted)).0 in
-    (long_as bs n k order counted wide, omega arith, omega arith)
