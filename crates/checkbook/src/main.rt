@@ -2,21 +2,29 @@
 
 #![tactic(auto)]
 
+ghost use Rattle.std.specs.Prelude.{OnOk, IfSome};
+ghost use Rattle.std.specs.Io.KnownBytes.{Appends};
+ghost use Rattle.checkbook.specs.Summaries.{summary_of};
+
 mod summary;
 
 use books::examine;
-use std::io::Read;
+use std::alloc::Global;
+use std::io::{Read, Write};
 use summary::Summary;
 
-// Examines the whole of standard input as a book, and prints the summary.
-fn run(rt: &HostRuntime) -> anyhow::Result<()> {
-    let mut bytes = Vec::new(rt.alloc());
-    let _ = rt.stdin().read_to_end(&mut bytes)?;
+// Examines all that a reader has left as a book, and writes the summary of that and nothing else.
+fn run<R: Read + Drop, W: Write>(heap: Global, mut reader: R, writer: &mut W) -> anyhow::Result<()>
+    ensures { OnOk result (IfSome (R.remaining reader) (λ bytes.
+        Appends (W.contents writer.old) (W.contents writer.new) (summary_of bytes))) }
+{
+    let mut bytes = Vec::new(heap);
+    let _ = reader.read_to_end(&mut bytes)?;
     let report = examine(bytes.as_slice());
-    print!(rt; "{}", Summary(&report))?;
+    write!(writer, "{}", Summary(&report))?;
     Ok(())
 }
 
 fn main(rt: HostRuntime) -> anyhow::Result<()> {
-    run(&rt)
+    run(rt.alloc(), rt.stdin(), &mut rt.stdout())
 }

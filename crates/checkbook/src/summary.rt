@@ -1,5 +1,6 @@
 // The summary of an examination: a line for each thing found, and the verdict last.
 ghost use Rattle.std.specs.Prelude.{Some};
+ghost use Rattle.std.specs.Result.{result_err};
 ghost use Rattle.checkbook.specs.Summaries.{found_line, summary, verdict_line};
 
 use books::Report;
@@ -30,7 +31,7 @@ impl fmt::Display for FoundLine<'_> {
 struct VerdictLine<'a>(&'a Result<(), Fault>);
 
 impl fmt::Display for VerdictLine<'_> {
-    ghost output = { λ line. Some (verdict_line line.0.now) };
+    ghost output = { λ line. Some (verdict_line (result_err line.0.now)) };
 
     fn fmt<W: fmt::Write>(&self, f: &mut fmt::Formatter<W>) -> fmt::Result {
         match self.0 {

@@ -1,0 +1,4 @@
+use Rattle.checkbook.proofs.summary.FoundLineDisplay.fmt.Goals as goal
+
+pub returns-in-Some-clause-writes : goal.returns-in-Some-clause-writes
+returns-in-Some-clause-writes g c = rw c.in-Some.is c.writeln.ensures.writes
