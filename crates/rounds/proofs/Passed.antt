@@ -1,5 +1,5 @@
 -- What the tests of a round say that was played.
-use Rattle.std.proofs.Common.{◌≡◌, ℕ, None, length}
+use Rattle.std.proofs.Common.{◌≡◌, ℕ, ◌+◌, ◌*◌, None, length, sym, ap, ◌∙◌, arith}
 use Rattle.faults.specs.declared.Layer.TheVariants.{Host as HostLayer}
 use Rattle.digits.specs.Refusals.{long_fault, equal_fault}
 use Rattle.digits.proofs.Passing.{or_else_none, none_or_else, equal_is, long_is}
@@ -7,7 +7,7 @@ use Rattle.scheme.specs.Answers.{sheet_size}
 use Rattle.scheme.specs.Sessions.{digits_left, family_fault, request_fault}
 use Rattle.scheme.proofs.Taken.{Taken, taken}
 use Rattle.rounds.specs.Lent.{Contents}
-use Rattle.rounds.specs.Rounds.{Round, hosts_fault, rows_fault, round_fault}
+use Rattle.rounds.specs.Rounds.{Round, hosts_fault, rows_fault, round_fault, carried}
 
 -- each row has its length
 pub record Long (k : ℕ) (rows : Contents) : Type 0 where
@@ -54,3 +54,21 @@ fit r h =
       takes = takes;
       requested = taken n k (digits_left r.session) r.family r.position (length r.rows.first_query) (length r.rows.second_query) takes;
     }
+
+-- the same of the rows, told by the family
+pub fit_rows : (r : Round) → round_fault r ≡ None → Long r.family.dim r.rows
+fit_rows r h =
+    let passed = fit r h in
+    let is = sym passed.requested.dim_is in
+    record {
+      first_query = passed.rows.first_query ∙ is;
+      second_query = passed.rows.second_query ∙ is;
+      first_sheet = passed.rows.first_sheet ∙ ap sheet_size is;
+      second_sheet = passed.rows.second_sheet ∙ ap sheet_size is;
+    }
+
+-- how many digits the rows have in all
+pub rows_count : (r : Round) → round_fault r ≡ None → carried r.rows ≡ 14 * r.family.dim + 12
+rows_count r h =
+    let rows = fit_rows r h in
+    omega (arith, rows.first_query, rows.second_query, rows.first_sheet, rows.second_sheet)

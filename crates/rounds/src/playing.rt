@@ -4,7 +4,8 @@ ghost use Rattle.faults.specs.declared.Fault.{Fault};
 ghost use Rattle.scheme.specs.Answers.{Query, sheet_size, sheet_of};
 ghost use Rattle.scheme.specs.Runs.{declined, Step, Run};
 ghost use Rattle.scheme.specs.Sessions.{after_request, after_recovery};
-ghost use Rattle.session.specs.States.{ready_session, ready_state};
+ghost use Rattle.session.specs.Calls.{read_by};
+ghost use Rattle.session.specs.States.{ready_session, ready_state, waiting_session};
 ghost use Rattle.rounds.specs.Lent.{before, after};
 ghost use Rattle.rounds.specs.Lookups.{request_of, request_refusal, both_calls, both_shown};
 ghost use Rattle.rounds.specs.Rounds.{handed, round_fault, played, read_from, carried, with_carried};
@@ -14,7 +15,7 @@ use crate::rows::{Reading, Rows};
 use family::Family;
 use faults::Fault;
 use host::Host;
-use session::Ready;
+use session::{Ready, Waiting};
 
 // Zeroes a sheet and lets a host answer a query into it.
 fn ask<F: Family, H: Host>(host: &H, family: &F, query: &[u8], sheet: &mut [u8])
@@ -27,12 +28,27 @@ fn ask<F: Family, H: Host>(host: &H, family: &F, query: &[u8], sheet: &mut [u8])
     host.answer(family, query, sheet).unwrap();
 }
 
+// Recovers from both sheets. An entry goes with the digits carried.
+fn read<F: Family>(
+    waiting: Waiting,
+    family: &F,
+    one: &[u8],
+    two: &[u8],
+    carried: usize,
+) -> (Ready, Result<Reading, Fault>)
+    ensures reading { result.1 ≡ with_carried carried (read_by waiting (F.Family.vectors family.now) one.now two.now) }
+    ensures after { ready_session result.0
+        ≡ after_recovery (read_by waiting (F.Family.vectors family.now) one.now two.now) (waiting_session waiting) }
+{
+    let (session, outcome) = waiting.recover(family, one, two);
+    (session, outcome.map(|entry| Reading { entry, carried }))
+}
+
 // A whole lookup: a request for a position, each host's answer to its query into a zeroed sheet, and the recovery. It gives the
 // entry, with how many digits the rows carried each way. What a request or a host would refuse is refused before a tape digit is
 // taken or a byte written, and the session comes back as it was. Where the sheets are at odds, the rows stay written, and the
 // lookup counts as unread. (Loose parameters, and no struct of them with methods: each caller would make one for a single call, and
 // the clauses would reach every part of it by a longer name. Each clause says first what r is, since it sees no other's names.)
-#[tactic(auto, using(scheme::specs::Runs::declines, crate::proofs::Asked::second_is_query))]
 pub fn round<F: Family, A: Host, B: Host>(
     session: Ready,
     family: &F,
@@ -81,6 +97,7 @@ pub fn round<F: Family, A: Host, B: Host>(
         .unwrap();
     ask(first_host, family, first_query, first_sheet);
     ask(second_host, family, second_query, second_sheet);
-    let (session, outcome) = waiting.recover(family, first_sheet, second_sheet);
-    (session, outcome.map(|entry| Reading { entry, carried }))
+    // named first: where a call is what is returned, a proof knows nothing of the rows any more
+    let (session, reading) = read(waiting, family, first_sheet, second_sheet, carried);
+    (session, reading)
 }

@@ -1,3 +1,4 @@
 pub mod Chains
 pub mod Asking
 pub mod Entry
+pub mod FirstLookup

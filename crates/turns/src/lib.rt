@@ -44,7 +44,6 @@ pub fn look_up<F: Family>(
 }
 
 // A lookup that is given up: a request and, if it is taken, its abandonment.
-#[tactic(auto, using(crate::proofs::Chains::one_call))]
 pub fn give_up<F: Family>(
     ready: Ready,
     family: &F,

@@ -1,6 +1,5 @@
-use Rattle.std.proofs.Common.{rules}
 use Rattle.turns.proofs.Chains.{two_calls}
 use Rattle.turns.proofs.look_up.Goals as goal
 
 pub returns : goal.returns
-returns g c = two_calls c.in_ok-waiting.ensures.step (search rules)
+returns g c = two_calls c.in_ok-waiting.ensures.step c.recover.ensures.step
