@@ -32,7 +32,7 @@ abbrev pub exactly : ℕ → Option (List ℕ) → Option (List ℕ)
 exactly n numbers = option_and_then (λ ns. cond (length ns == n) (Some ns) None) numbers
 
 -- What an inquiry says: a family of words, a position in it, a host's table, and a tape.
-pub record Parts : Type 0 where
+pub record Said : Type 0 where
   pub letters : ℕ
   pub alphabet : ℕ
   pub position : ℕ
@@ -45,8 +45,8 @@ abbrev pub ◌>>=◌ : {A B : Type 0} → Option A → (A → Option B) → Opti
 o >>= f = option_and_then f o
 
 -- what four lines say: the letters and the alphabet, the position, the table, the tape
-unfoldable pub parts_of : List ℕ → List ℕ → List ℕ → List ℕ → Option Parts
-parts_of first second third fourth = do
+unfoldable pub said_in : List ℕ → List ℕ → List ℕ → List ℕ → Option Said
+said_in first second third fourth = do
   size ← exactly 2 (line_numbers first)
   position ← exactly 1 (line_numbers second)
   table ← line_numbers third
@@ -60,8 +60,8 @@ is_end (line ∷ []) = length line == 0
 is_end (line ∷ more ∷ lines) = false
 
 -- what the lines say that stand between line feeds
-unfoldable pub inquiry_in : List (List ℕ) → Option Parts
-inquiry_in (first ∷ second ∷ third ∷ fourth ∷ end) = cond (is_end end) (parts_of first second third fourth) None
+unfoldable pub inquiry_in : List (List ℕ) → Option Said
+inquiry_in (first ∷ second ∷ third ∷ fourth ∷ end) = cond (is_end end) (said_in first second third fourth) None
 inquiry_in _ = None
 
 -- the most bytes that an input may have
@@ -69,5 +69,5 @@ abbrev pub most_bytes : ℕ
 most_bytes = 8192
 
 -- what an input says, or none where it has another form or too many bytes
-unfoldable pub inquiry_of : List ℕ → Option Parts
+unfoldable pub inquiry_of : List ℕ → Option Said
 inquiry_of input = cond (nat_le (length input) most_bytes) (inquiry_in (parts_at 10 input)) None

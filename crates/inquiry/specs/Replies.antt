@@ -12,11 +12,11 @@ use Rattle.host.specs.Dense.{dense_fault, dense_holding}
 use Rattle.words.specs.Words.{word_vectors, words_fault}
 use Rattle.rounds.specs.Lent.{Contents}
 use Rattle.rounds.specs.Rounds.{Round, round_fault}
-use Rattle.inquiry.specs.Grammar.{Parts, inquiry_of}
+use Rattle.inquiry.specs.Grammar.{Said, inquiry_of}
 use Rattle.inquiry.specs.Text.{Findings, findings_text, refusal_text}
 
 -- the family of words that an inquiry names
-abbrev pub family_of : Parts → Vectors
+abbrev pub family_of : Said → Vectors
 family_of p = word_vectors p.letters p.alphabet
 
 -- fresh rows of the lengths that a round takes, which overwrites them
@@ -40,11 +40,11 @@ round_with session family host position = record {
 }
 
 -- the round of an inquiry: a session opened on its tape, and the host of its table
-abbrev pub round_of : Parts → Round
+abbrev pub round_of : Said → Round
 round_of p = round_with (opened (family_of p) p.tape) (family_of p) (dense_holding p.table) p.position
 
 -- why an inquiry is refused, in the order of the calls: the family, the table, the tape, the round
-unfoldable pub inquiry_fault : Parts → Option Fault
+unfoldable pub inquiry_fault : Said → Option Fault
 inquiry_fault p =
     or_else (words_fault p.letters p.alphabet)
     (or_else (dense_fault p.table) (or_else (opening_fault p.tape) (round_fault (round_of p))))
@@ -69,7 +69,7 @@ answer_text (Some fault) told = refusal_text (number_of fault.cause)
 
 -- The reply to an inquiry by a program that tells a round in its own way. An input of another form is refused by number 1, as a row of
 -- another length is.
-abbrev pub reply_by : (Round → List ℕ) → Option Parts → List ℕ
+abbrev pub reply_by : (Round → List ℕ) → Option Said → List ℕ
 reply_by tell None = refusal_text 1
 reply_by tell (Some p) = answer_text (inquiry_fault p) (tell (round_of p))
 

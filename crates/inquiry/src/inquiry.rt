@@ -1,6 +1,6 @@
 // An inquiry, read from bytes.
 ghost use Rattle.std.specs.Prelude.{map, option_map};
-ghost use Rattle.inquiry.specs.Grammar.{parts_of, inquiry_in, inquiry_of};
+ghost use Rattle.inquiry.specs.Grammar.{said_in, inquiry_in, inquiry_of};
 ghost use Rattle.inquiry.specs.Stops.{ReadsAs};
 
 use crate::lines::{byte_row, exactly, is_end};
@@ -25,7 +25,7 @@ impl Inquiry {
     ghost use Rattle.inquiry.specs.Inquiries.{in_bytes, said};
 
     // What four lines say.
-    #[tactic(auto, unfolding(crate::specs::Grammar::parts_of))]
+    #[tactic(auto, unfolding(crate::specs::Grammar::said_in))]
     fn from_lines(
         heap: Global,
         first: &[u8],
@@ -33,7 +33,7 @@ impl Inquiry {
         third: &[u8],
         fourth: &[u8],
     ) -> Result<Inquiry, Stop>
-        ensures { ReadsAs said (option_map in_bytes (parts_of first.now second.now third.now fourth.now)) result }
+        ensures { ReadsAs said (option_map in_bytes (said_in first.now second.now third.now fourth.now)) result }
     {
         let [letters, alphabet] = exactly::<2>(heap, first)?;
         let [position] = exactly::<1>(heap, second)?;

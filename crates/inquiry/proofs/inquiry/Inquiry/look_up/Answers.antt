@@ -6,7 +6,7 @@ use Rattle.host.specs.Dense.{dense_holding}
 use Rattle.session.specs.States.{ready_session}
 use Rattle.scheme.specs.Sessions.{opened}
 use Rattle.rounds.specs.Rounds.{Round, round_fault}
-use Rattle.inquiry.specs.Grammar.{Parts}
+use Rattle.inquiry.specs.Grammar.{Said}
 use Rattle.inquiry.specs.Replies.{family_of, round_with, inquiry_fault, findings_in, round_of}
 use Rattle.inquiry.specs.Findings.{findings}
 use Rattle.inquiry.specs.Stops.{Finds}
@@ -16,7 +16,7 @@ use Rattle.inquiry.proofs.inquiry.Inquiry.look_up.Goals as goal
 pub returns : goal.returns
 unfolding inquiry_fault
 returns c =
-    let p : Parts = said c.args.self in
+    let p : Said = said c.args.self in
     let held : dense_holding c.in_ok-host.host.table.now ≡ dense_holding p.table = c.in_ok-host.ensures.1 ∙ ap dense_holding c.as_slice.ensures.value in
     let session : ready_session c.in_ok-session.session ≡ opened (family_of p) p.tape = search rules in
     let named : word_vectors (letters_of c.in_ok-family.family) (alphabet_of c.in_ok-family.family) ≡ family_of p = search rules in
