@@ -10,9 +10,10 @@ use Rattle.scheme.specs.Queries.{second_query, shift}
 use Rattle.scheme.specs.Runs.{ready, waiting, request, asked, Step}
 use Rattle.scheme.specs.Sessions.{Session, opened, after_request, digits_left, next_digits, tape_fault, request_fault}
 use Rattle.scheme.proofs.Steps.{stepping}
+use Rattle.scheme.proofs.Taken.{widths}
 use Rattle.session.proofs.Sheets.{own_family}
-use Rattle.session.proofs.Stepping.{widths, asks_first, asks_second, step_taken}
-use Rattle.words.specs.Words.{word_vectors, words_fault}
+use Rattle.session.proofs.Stepping.{asks_first, asks_second, step_taken}
+use Rattle.words.specs.Words.{word_dim, word_vectors, words_fault}
 use Rattle.bootloader.specs.Calls.{asked_fault, shift_row}
 
 -- what the tests of a request say that was taken: so a session takes it that is opened on its tape
@@ -41,21 +42,21 @@ tests h q t tape first second turn none =
     }
 
 -- a row of one byte, written
-one_written : (n : ℕ) (xs : List ℕ) → length xs ≡ 1 → slice_set xs 0 n ≡ n ∷ []
+pub one_written : (n : ℕ) (xs : List ℕ) → length xs ≡ 1 → slice_set xs 0 n ≡ n ∷ []
 one_written n [] e = absurd (omega arith)
 one_written n (x ∷ []) e = refl
 one_written n (x ∷ y ∷ ys) e = absurd (omega arith)
 
--- what the code writes with the first k tape digits
-pub writes : (h q t k made : ℕ) (f : Vectors) (tape digits first second turn p r : List ℕ) → f ≡ word_vectors h q → k ≡ f.dim → length turn ≡ 1 →
-    digits ≡ take k tape → p ≡ row (length first) (at digits) → r ≡ row (length second) (λ c. (at digits c + f.v t c) % 6) → made ≡ shift f t digits →
-    asked_fault h q t tape first second turn ≡ None →
+-- what the code writes with the tape's digits for a request
+pub writes : (h q t made : ℕ) (f : Vectors) (tape digits first second turn p r : List ℕ) → f ≡ word_vectors h q → length turn ≡ 1 →
+    digits ≡ take (word_dim h q) tape → p ≡ row (length first) (at digits) → r ≡ row (length second) (λ c. (at digits c + f.v t c) % 6) →
+    made ≡ shift f t digits → asked_fault h q t tape first second turn ≡ None →
     (asked_fault h q t tape first second turn ≡ None) × (p ≡ next_digits (opened (word_vectors h q) tape))
     × (r ≡ second_query (word_vectors h q) t (next_digits (opened (word_vectors h q) tape)))
     × (slice_set turn 0 made ≡ shift_row (word_vectors h q) t (next_digits (opened (word_vectors h q) tape)))
-writes h q t k made f tape digits first second turn p r same wide one taken p_is r_is made_is none =
+writes h q t made f tape digits first second turn p r same one taken p_is r_is made_is none =
     let s : Session = opened (word_vectors h q) tape in
-    let z : digits ≡ next_digits s = taken ∙ ap (λ n. take n tape) (wide ∙ ap (λ x. x.dim) same) in
+    let z : digits ≡ next_digits s = taken in
     let takes = (tests h q t tape first second turn none).takes in (
       none,
       p_is ∙ asks_first s (word_vectors h q) t _ (length second) _ takes z,

@@ -19,7 +19,8 @@ fn add_answer(h: u32, q: u32, table: &[u8], query: &[u8], sheet: &mut [u8]) -> R
         (λ e. (answer_call_fault h q table.now query.now sheet.old ≡ Some e) × (sheet.new ≡ sheet.old)) }
 {
     let family = Words::new(h as usize, q as usize)?;
-    Dense::new(table)?.answer(&family, query, sheet)
+    let host = Dense::new(table)?;
+    host.answer(&family, query, sheet)
 }
 
 // What a host of a table adds to a sheet for a query, for words of h letters from an alphabet of q.
