@@ -21,16 +21,16 @@ pub(crate) fn element_of(heap: Global, word: &str) -> Result<Element, Unanswered
 }
 
 // A row as a call left it, under a name; the refusal comes first where the call was refused.
-fn row_after(
-    heap: Global,
-    came: Result<(), Fault>,
-    name: &str,
-    row: &[u8],
-) -> Result<String, AllocError> {
-    let row = Spaced(row);
-    match came {
-        Ok(_) => format!(in heap; "{name}{row}"),
-        Err(fault) => format!(in heap; "{} {name}{row}", RefusalLine(fault)),
+#[derive(Clone, Copy)]
+struct RowAfter<'a>(Result<(), Fault>, &'a str, &'a [u8]);
+
+impl fmt::Display for RowAfter<'_> {
+    fn fmt<W: fmt::Write>(&self, f: &mut fmt::Formatter<W>) -> fmt::Result {
+        let RowAfter(came, name, row) = self;
+        if let Err(fault) = came {
+            write!(f, "{} ", RefusalLine(*fault))?;
+        }
+        write!(f, "{name}{}", Spaced(row))
     }
 }
 
@@ -39,7 +39,7 @@ pub(crate) fn written(heap: Global, row: &str, over: &str) -> Result<String, Una
     let element = element_of(heap, row)?;
     let mut place = bytes_of(heap, over)?;
     let came = element.write(&mut place);
-    Ok(row_after(heap, came, "row", &place)?)
+    Ok(RowAfter(came, "row", &place).to_string(heap)?)
 }
 
 // One element: read, turned and scaled.
@@ -96,5 +96,5 @@ pub(crate) fn multiplied(heap: Global, one: &str, two: &str) -> Result<String, U
 pub(crate) fn drawn(heap: Global, bytes: &str, tape: &str) -> Result<String, AllocError> {
     let mut row = bytes_of(heap, tape)?;
     let came = draw(&bytes_of(heap, bytes)?, &mut row);
-    row_after(heap, came, "tape", &row)
+    RowAfter(came, "tape", &row).to_string(heap)
 }
