@@ -4,8 +4,8 @@
 usage: python3 tools/planted.py [NAME..]        at the top of the repository; with no NAME, each crate that has some
        python3 tools/planted.py --apply         tries nothing, and sees that each still applies to the sources
 
-Each shows, at one more wrong body, what a must-fail edit of the same crate shows. So the gate, which tries those at each run, only
-sees that these apply; they are tried by hand, after a change to a contract or to what it is proved from.
+Each is one more wrong body behind a function that has a must-fail edit. The gate, which tries those at each run, only sees that these
+apply; they are tried by hand, after a change to a contract or to what it is proved from.
 """
 
 import glob
