@@ -1,8 +1,8 @@
 -- Rows digit by digit, and what it means that a row or a number is not refused.
-use Rattle.std.proofs.Common.{◌≡◌, ℕ, zero, suc, ◌+◌, ◌<◌, ◌≤◌, ltb, leb, List, [], ◌∷◌, ◌++◌, ◌-◌, ◌%◌, length, take, drop, None, sym, refl, ap, ◌∙◌, inl, inr, length-drop, arith}
+use Rattle.std.proofs.Common.{◌≡◌, ℕ, zero, suc, ◌+◌, ◌<◌, ◌≤◌, ltb, leb, List, [], ◌∷◌, ◌%◌, length, None, sym, refl, ◌∙◌, inl, inr, arith}
 use Rattle.std.proofs.lemmas.List.FromFn.{length-map-range_with_len, get_or-map-range_with_len, fill_by_all}
-use Rattle.std.proofs.lemmas.List.{ext_get_or, get_or_append_left, get_or-append_right, get_or-take, get_or-drop}
-use Rattle.std.proofs.lemmas.Bool.{cases_Bool, cases_lt, ltb-true, leb-true, and_parts, cond-true, cond-false}
+use Rattle.std.proofs.lemmas.List.{ext_get_or}
+use Rattle.std.proofs.lemmas.Bool.{cases_Bool, ltb-true, leb-true, and_parts, cond-true, cond-false}
 use Rattle.faults.specs.declared.Layer.{Layer}
 use Rattle.digits.specs.Rows.{at, row, Digits, first_above, reduced}
 use Rattle.digits.specs.Refusals.{limit_fault}
@@ -47,17 +47,3 @@ pub limit_fit : (part : Layer) (low high n : ℕ) → limit_fault part low high 
 limit_fit part low high n e =
     let both = and_parts (leb low n) (leb n high) (passed _ _ e) in
     (leb-true low n both.0, leb-true n high both.1)
-
--- a row of six digits turned to the left
-pub at_rotated : (xs : List ℕ) (m i : ℕ) → length xs ≡ 6 → m < 6 → i < 6 → at (drop m xs ++ take m xs) i ≡ at xs ((i + m) % 6)
-at_rotated xs m i six hm hi =
-    elim (cases_lt (i + m) 6) [
-      | inl l ↦
-          get_or_append_left (drop m xs) (take m xs) 0 i (omega (arith, length-drop m xs))
-          ∙ get_or-drop m xs i 0
-          ∙ ap (at xs) (omega arith)
-      | inr past ↦
-          get_or-append_right (drop m xs) (take m xs) (6 - m) i 0 (omega (arith, length-drop m xs)) (omega arith)
-          ∙ get_or-take m xs (i - (6 - m)) 0 (omega arith)
-          ∙ ap (at xs) (omega arith)
-    ]

@@ -1,11 +1,12 @@
 -- Turning an element is dividing it by a power of g.
-use Rattle.std.proofs.Common.{◌≡◌, ℕ, ◌+◌, ◌-◌, ◌*◌, ◌%◌, ◌<◌, List, ◌++◌, length, take, drop, sym, refl, ap, ◌∙◌, one-mul, zero-mul, length-append, length-drop, length-take, arith}
+use Rattle.std.proofs.Common.{◌≡◌, ℕ, ◌+◌, ◌-◌, ◌*◌, ◌%◌, ◌<◌, List, length, sym, refl, ap, ◌∙◌, one-mul, zero-mul, arith}
 use Rattle.std.proofs.lemmas.Bool.Decides.{nat_tests}
 use Rattle.std.proofs.lemmas.List.FromFn.{fill_by_all}
 use Rattle.digits.specs.Elements.{power, times, scaled, turned}
 use Rattle.digits.specs.Rows.{at, Digits}
 use Rattle.digits.specs.Sums.{same}
-use Rattle.digits.proofs.RowLaws.{at_row, at_rotated, row_cong}
+use Rattle.digits.proofs.RowLaws.{at_row, row_cong}
+use Rattle.digits.proofs.DigitRows.{digits-row}
 use Rattle.digits.proofs.Multiplying.{at-times}
 use Rattle.digits.proofs.RingSums.{at_scaled}
 use Rattle.digits.proofs.Sums.{total_only, same_yes, same_no}
@@ -33,12 +34,14 @@ turned_divides s e x d is r h =
     ∙ ap (λ q. at e q % 6) back
     ∙ omega (arith, d r)
 
--- six digits turned to the left are divided by the power that leads to the place they began at
-pub rotated_turned : (s : ℕ) (e x : List ℕ) → length e ≡ 6 → x ≡ drop (s % 6) e ++ take (s % 6) e → x ≡ turned s e
-rotated_turned s e x six is =
-    fill_by_all (λ r. at e ((r + s) % 6)) x 6 0
-    (ap length is ∙ omega (arith, length-append (drop (s % 6) e) (take (s % 6) e), length-drop (s % 6) e, length-take (s % 6) e))
-    (λ r h. ap (λ y. at y r) is ∙ at_rotated e (s % 6) r six (omega arith) h ∙ ap (at e) (omega arith))
+-- six digits, digit r of which is the digit of e that stands s above r, are e divided by the power s of g
+pub turned_each : (s : ℕ) (e x : List ℕ) → length x ≡ 6 →
+    ((r : ℕ) → r < 6 → at x r ≡ at e ((r + s % 6) % 6)) → x ≡ turned s e
+turned_each s e x six each =
+    fill_by_all (λ r. at e ((r + s) % 6)) x 6 0 six (λ r h. each r h ∙ ap (at e) (omega arith))
+
+pub digits-turned : (s : ℕ) (e : List ℕ) → Digits e → Digits (turned s e)
+digits-turned s e d = digits-row 6 (λ r. at e ((r + s) % 6)) (λ r h. d ((r + s) % 6))
 
 -- turning goes digit by digit, so a number of times may be taken after it
 pub turned-scaled : (s a : ℕ) (e : List ℕ) → turned s (scaled a e) ≡ scaled a (turned s e)

@@ -27,6 +27,10 @@ fn plain_sum(a: &[u8], b: &[u8]) -> u32
 pub fn dot(a: &[u8], b: &[u8]) -> u8
     ensures { result ≡ product (length a.now) (at a.now) (at b.now) }
 {
+    // no vector is longer than a stretch: there is nothing to cut then, and one remainder is enough
+    if a.len() <= STRETCH {
+        return (plain_sum(a, b) % 6) as u8;
+    }
     let mut sum = 0;
     for (x, y) in a.chunks(STRETCH).zip(b.chunks(STRETCH)) {
         // reduced before it is added, since nothing but its type bounds the plain sum of a stretch
