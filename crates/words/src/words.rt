@@ -110,12 +110,21 @@ impl Family for Words {
         self.dimension
     }
 
+    // Past the last position there are no own coordinates, and none are looked for. So too in v, the
+    // product and spreading.
     fn u(&self, i: usize, c: usize) -> u8 {
-        u8::from(self.own(i).contains(&c))
+        if i < self.count {
+            u8::from(self.own(i).contains(&c))
+        } else {
+            0
+        }
     }
 
     #[tactic(auto, using(crate::proofs::Weighing::digit_weigh))]
     fn v(&self, i: usize, c: usize) -> u8 {
+        if i >= self.count {
+            return 0;
+        }
         self.u(i, c) * self.weight(c)
     }
 
@@ -134,6 +143,9 @@ impl Family for Words {
     // Only the digits at the position's own coordinates count.
     #[tactic(auto, using(crate::proofs::Telling::product_told))]
     fn u_product(&self, i: usize, row: &[u8]) -> u8 {
+        if i >= self.count {
+            return 0;
+        }
         product_over(&self.own(i), row)
     }
 
@@ -152,6 +164,9 @@ impl Family for Words {
     // Only the elements at the position's own coordinates change.
     #[tactic(auto, using(crate::proofs::Telling::own_small))]
     fn spread(&self, i: usize, amount: u8, e: usize, elements: &mut [u8]) {
+        if i >= self.count {
+            return;
+        }
         spread_over(&self.own(i), amount, e, elements);
     }
 

@@ -1,8 +1,14 @@
-use Rattle.std.proofs.Common.{◌≤◌, mul-le-mul, arith}
-use Rattle.words.specs.Words.{size_at}
+use Rattle.std.proofs.Common.{◌≤◌, sym, mul-le-mul, arith}
+use Rattle.words.specs.Words.{size_at, weight}
 use Rattle.words.specs.Limits.{weight_lt}
+use Rattle.words.specs.Matching.{digit_past}
 use Rattle.words.specs.WordFamily.{digit_lt}
 use Rattle.words.proofs.words.WordsFamily.v.Goals as goal
+
+pub returns-then-i-self : goal.returns-then-i-self
+returns-then-i-self c =
+    let w = c.args.self.now in
+    sym (digit_past w.letters w.alphabet (weight w.letters) c.args.i c.args.c (omega (arith, w.counted)))
 
 pub overflow_mul-result : goal.overflow_mul-result
 overflow_mul-result c =
