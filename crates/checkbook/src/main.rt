@@ -21,7 +21,9 @@ fn run<R: Read + Drop, W: Write>(heap: Global, mut reader: R, writer: &mut W) ->
     let mut bytes = Vec::new(heap);
     let _ = reader.read_to_end(&mut bytes)?;
     let report = examine(bytes.as_slice());
-    write!(writer, "{}", Summary(&report))?;
+    // as one text: in parts, what reads the output and leaves after the first line would make this fail
+    let text = Summary(&report).to_string(heap)?;
+    writer.write_all(text.as_bytes())?;
     Ok(())
 }
 
