@@ -17,7 +17,7 @@
  * nothing: every row is left as it was. No call allocates memory, keeps anything from one call to the next, or reads or writes
  * anything but its rows.
  *
- * The library needs memcpy, memmove and memset, and nothing else from outside.
+ * The library needs memcpy and memmove, and nothing else from outside.
  *
  * A row is a pointer and its length in bytes. The rows of one call do not overlap. A row of length 0 may have any pointer, NULL too;
  * any other has to point at so many bytes.
